@@ -1,0 +1,171 @@
+// Replays the rows of standard input through the float functions, and writes each row with the
+// result that came out.
+//
+// A row is 27 bytes: a function's name in 8 columns, two operands in 8 columns, each after a space,
+// and a line end. An operand is a bit pattern in hexadecimal digits, of an f32, or of an i32 where it
+// is the exponent of powi; a function of one operand does not look at the second. The result is the
+// bit pattern of an f32, and 7fc00000 for every NaN. A row of any other form gets the result
+// `bad line`. At the end of the input, or where it stops inside a row, the program ends.
+use check::same;
+ghost use Prim.Native.Nat.{_<_};
+
+enum Function {
+    Max,
+    Min,
+    Abs,
+    Sqrt,
+    Powi,
+    Powf,
+    Exp,
+    Unknown,
+}
+
+fn function_of(name: &[u8]) -> Function {
+    if same(name, b"max     ") {
+        return Function::Max;
+    }
+    if same(name, b"min     ") {
+        return Function::Min;
+    }
+    if same(name, b"abs     ") {
+        return Function::Abs;
+    }
+    if same(name, b"sqrt    ") {
+        return Function::Sqrt;
+    }
+    if same(name, b"powi    ") {
+        return Function::Powi;
+    }
+    if same(name, b"powf_1_5") {
+        return Function::Powf;
+    }
+    if same(name, b"exp     ") {
+        return Function::Exp;
+    }
+    Function::Unknown
+}
+
+// What a hexadecimal digit stands for, and 16 for any other byte.
+fn digit(c: u8) -> u32
+    ensures { λ r. ⌜ r < 17 ⌝ }
+{
+    if c >= b'0' {
+        if c <= b'9' {
+            return (c - b'0') as u32;
+        }
+    }
+    if c >= b'a' {
+        if c <= b'f' {
+            return (c - b'a') as u32 + 10;
+        }
+    }
+    16
+}
+
+enum Operand {
+    Word(u32),
+    Malformed,
+}
+
+// The number that the digits are. Of more than eight the last eight count.
+fn word_of(digits: &[u8]) -> Operand {
+    let mut word = 0u32;
+    let mut i = 0;
+    while i < digits.len() {
+        let d = digit(digits[i]);
+        if d > 15 {
+            return Operand::Malformed;
+        }
+        word = word % 0x1000_0000 * 16 + d;
+        i += 1;
+    }
+    Operand::Word(word)
+}
+
+// The f32 of a pattern, and one NaN for every pattern that is a NaN.
+fn float_of(bits: u32) -> f32 {
+    if bits % 0x8000_0000 > 0x7f80_0000 {
+        return 0.0 / 0.0;
+    }
+    f32::from_bits(bits)
+}
+
+fn bits_of(x: f32) -> u32 {
+    if x != x {
+        return 0x7fc0_0000;
+    }
+    f32::to_bits(x)
+}
+
+// The i32 of a pattern.
+fn signed_of(bits: u32) -> i32 {
+    if bits < 0x8000_0000 {
+        return bits as i32;
+    }
+    -1 - ((0xffff_ffff - bits) as i32)
+}
+
+enum Outcome {
+    Value(f32),
+    BadLine,
+}
+
+// The outcome of a function of two operands.
+fn of_two(function: Function, x: f32, digits: &[u8]) -> Outcome {
+    let Operand::Word(word) = word_of(digits) else {
+        return Outcome::BadLine;
+    };
+    match function {
+        Function::Max => Outcome::Value(floats::max(x, float_of(word))),
+        Function::Min => Outcome::Value(floats::min(x, float_of(word))),
+        Function::Powi => Outcome::Value(floats::powi(x, signed_of(word))),
+        _ => Outcome::BadLine,
+    }
+}
+
+fn outcome_of(row: &[u8]) -> Outcome {
+    if row.len() < 27 {
+        return Outcome::BadLine;
+    }
+    let Operand::Word(word) = word_of(&row[9..17]) else {
+        return Outcome::BadLine;
+    };
+    let x = float_of(word);
+    let function = function_of(&row[0..8]);
+    match function {
+        Function::Abs => Outcome::Value(floats::abs(x)),
+        Function::Sqrt => Outcome::Value(floats::sqrt(x)),
+        Function::Powf => Outcome::Value(floats::powf_1_5(x)),
+        Function::Exp => Outcome::Value(floats::exp(x)),
+        _ => of_two(function, x, &row[18..26]),
+    }
+}
+
+fn write_outcome(outcome: Outcome) -> bool {
+    let Outcome::Value(r) = outcome else {
+        return io::write_all(1, b"bad line\n");
+    };
+    io::print_hex(1, bits_of(r) as u64, 8);
+    io::write_all(1, b"\n")
+}
+
+// Reads a row and writes its answer; false where there is no further row, or no way to write.
+fn answer_row() -> bool {
+    let mut row = [0u8; 27];
+    let got = io::read_full(0, &mut row);
+    if got < 27 {
+        return false;
+    }
+    row[26] = b' ';
+    io::write_all(1, &row);
+    write_outcome(outcome_of(&row))
+}
+
+// A proved loop has to end, and nothing says that the input does: the count is one that no run uses
+// up.
+fn main() {
+    let mut rows = u64::MAX;
+    while rows > 0 && answer_row() {
+        rows -= 1;
+    }
+}

@@ -1,0 +1,9 @@
+pub mod Choose
+pub mod Sides
+pub mod Scan
+pub mod Fold
+pub mod Sieve
+pub mod Tab
+pub mod Splice
+pub mod Laid
+pub mod Packed

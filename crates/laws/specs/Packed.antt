@@ -1,0 +1,47 @@
+-- Records given by their index, laid over the front of a list: what a loop that stores one record a turn leaves. Assumes nothing.
+use mathlib.Core.Path.{_≡_, refl, sym, ap, _∙_}
+use mathlib.Core.List.{List, _∷_}
+use Prim.Native.Nat.{ℕ, suc, _+_, _*_, _≤_, _<_}
+use native.Mathlib.Nat.{le-refl}
+use native.Mathlib.Numerals.{add-one}
+use lib.ListN.{length, take, drop}
+use Rattle.laws.specs.Tab.{tab, length-tab, tab-at, map-tab}
+use Rattle.laws.specs.Splice.{splice}
+use Rattle.laws.specs.Laid.{rows, rows-map, laid, laid-none, laid-more, laid-rest, laid-at, length-laid}
+
+-- 0, 1, .. n - 1
+abbrev indices : ℕ → List ℕ
+indices n = tab (λ i. i) n
+
+module _ {A : Type 0} (f : ℕ → List A) (s : ℕ) (l : List A) where
+  -- l, with its front replaced by the records f 0 .. f (k - 1), each of s elements
+  unfoldable pub packed : ℕ → List A
+  packed k = laid f s (indices k) l
+
+  pub packed-none : l ≡ packed 0
+  unfolding packed tab
+  packed-none = laid-none f s l
+
+  module _ (size : (i : ℕ) → length (f i) ≡ s) where
+    -- a store of the next record
+    pub packed-more : (k : ℕ) → splice (packed k) (k * s) (f k) ≡ packed (k + 1)
+    unfolding packed tab
+    packed-more k = rw add-one (rw (length-tab (λ i. i) k) at (laid-more f s size (indices k) l k))
+
+    -- what is not yet replaced
+    pub packed-rest : (k : ℕ) → drop (k * s) (packed k) ≡ drop (k * s) l
+    unfolding packed
+    packed-rest k = laid-rest f s size (indices k) l k (rw length-tab (le-refl k))
+
+    pub packed-at : (n i : ℕ) → i < n → take s (drop (i * s) (packed n)) ≡ f i
+    unfolding packed
+    packed-at n i h = laid-at f s size (indices n) l i 0 (rw length-tab h) ∙ ap f (tab-at (λ i. i) n i 0 h)
+
+    pub length-packed : (k : ℕ) → k * s ≤ length l → length (packed k) ≡ length l
+    unfolding packed
+    length-packed k h = length-laid f s size (indices k) l (rw length-tab h)
+
+-- records of a list that is given by its elements
+pub packed-laid : {X A : Type 0} (enc : X → List A) (g : ℕ → X) (s : ℕ) (l : List A) (n : ℕ) → packed (λ i. enc (g i)) s l n ≡ laid enc s (tab g n) l
+unfolding packed laid
+packed-laid enc g s l n = rw (rows-map enc g (indices n), map-tab, length-tab (λ i. i) n, length-tab g n)
