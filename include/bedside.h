@@ -1,26 +1,61 @@
-/* bedside.h: the proved float functions of the tracker, for a recorder's firmware in C, C++ or Rust.
+/* bedside.h: the proved parts of the tracker, for a recorder's firmware in C, C++ or Rust.
  *
  * Link libbedside.a (rt staticlib bedside), for x86-64 Linux. Nothing is allocated, nothing is kept
- * between calls, and no other library is needed. Every function accepts every value. What it returns is
- * the definition that its contract in crates/bedside cites, bit for bit; only the sign and the payload
- * of a NaN are left open.
+ * between calls, and no other library is needed. What a call returns is what the definition that its
+ * contract in crates/bedside cites gives, bit for bit; only the sign and the payload of a NaN are left
+ * open. No call can fail but by its refusal number, 0 where it is accepted; the numbers are those of the
+ * scope document. A refused call changes no lent memory, and every other field of its answer is 0 unless
+ * the field's comment says otherwise.
+ *
+ * A pointer comes with the number of its elements or points to as many as its type says, is aligned for
+ * its type, and may be anything where that number is 0. Slices that are lent together do not overlap.
+ * The arrays that a call needs besides are on the stack: at most 32 KiB.
  */
 #ifndef BEDSIDE_H
 #define BEDSIDE_H
 
+#include <stddef.h>
 #include <stdint.h>
 
 #ifdef __cplusplus
 extern "C" {
 #endif
 
-/* ---- float functions ---- */
+/* ---- float functions: accept everything ---- */
 float bedside_max(float a, float b);    /* where one is a NaN, the other; on equality, the first */
 float bedside_min(float a, float b);
 float bedside_sqrt(float x);            /* to the nearest, ties to even; a NaN below zero */
 float bedside_powi(float c, int32_t e); /* c to the power e */
 float bedside_powf_1_5(float m);        /* m * bedside_sqrt(m) */
 float bedside_exp(float a);             /* e to the power a */
+
+/* ---- filter: predict and the conversions accept everything; correct alone may refuse, with 12 ---- */
+typedef struct {
+    float p, v, a, b, c, d; /* position, speed, covariances (rows: a b, c d) */
+} bedside_pair;
+
+typedef struct {
+    uint32_t refusal;
+    bedside_pair pair; /* where refused, the one given */
+} bedside_corrected;
+
+bedside_pair bedside_pair_new(float z);
+bedside_pair bedside_pair_predict(bedside_pair pair);
+bedside_corrected bedside_pair_correct(bedside_pair pair, float z, float r);
+void bedside_convert_bbox_to_z(const float bbox[4], float z[4]); /* x1, y1, x2, y2 to x, y, h, r */
+void bedside_convert_z_to_bbox(const float z[4], float bbox[4]);
+float bedside_confidence(uint64_t age, uint64_t time_since_update, float coef);
+
+/* ---- assignment: 21, 22, 23 ----
+ * x[i] is the column of row i, y[j] the row of column j. */
+typedef struct {
+    uint32_t refusal;
+    uint64_t turns; /* row turns: at most 2 n (n - 1) */
+    uint64_t scans; /* column scans: at most n (n - 1) / 2 */
+} bedside_lapjv_answer;
+
+bedside_lapjv_answer bedside_lapjv(size_t n, const double *cost, size_t cost_len, size_t *x, size_t x_len,
+                                   size_t *y, size_t y_len);
 
 #ifdef __cplusplus
 }

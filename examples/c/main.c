@@ -1,4 +1,4 @@
-/* Calls each float function of libbedside.a and prints what came back: the call, the bits, the value. */
+/* Calls each function of libbedside.a and prints what came back: the call, the bits, the value. */
 #include <math.h>
 #include <stdio.h>
 #include <string.h>
@@ -15,7 +15,7 @@ static void show(const char *call, float result)
         printf("%-15s %08x %.6f\n", call, (unsigned)bits, result);
 }
 
-int main(void)
+static void float_functions(void)
 {
     show("max(1, NaN)", bedside_max(1.0f, NAN));
     show("max(-0, 0)", bedside_max(-0.0f, 0.0f));
@@ -30,5 +30,48 @@ int main(void)
     show("exp(-1)", bedside_exp(-1.0f));
     show("exp(89)", bedside_exp(89.0f));
     show("exp(-104)", bedside_exp(-104.0f));
+}
+
+/* A position measured at 10 and, after one prediction, at 12; then a correction that is refused. */
+static void filter(void)
+{
+    bedside_pair pair = bedside_pair_predict(bedside_pair_new(10.0f));
+    show("predicted a", pair.a);
+    show("predicted d", pair.d);
+    bedside_corrected corrected = bedside_pair_correct(pair, 12.0f, 1.0f);
+    show("corrected p", corrected.pair.p);
+    show("corrected v", corrected.pair.v);
+    pair.a = -1.0f;
+    corrected = bedside_pair_correct(pair, 12.0f, 1.0f);
+    printf("%-15s %u\n", "refusal", (unsigned)corrected.refusal);
+
+    const float bbox[4] = {10.0f, 20.0f, 42.0f, 84.0f};
+    float z[4], back[4];
+    bedside_convert_bbox_to_z(bbox, z);
+    bedside_convert_z_to_bbox(z, back);
+    show("z: height", z[2]);
+    show("z: aspect", z[3]);
+    show("bbox: right", back[2]);
+    show("confidence", bedside_confidence(1, 1, 0.9f));
+}
+
+/* Four equal costs, and a side that is refused. */
+static void assignment(void)
+{
+    const double cost[4] = {0.5, 0.5, 0.5, 0.5};
+    size_t x[2] = {0, 0}, y[2] = {0, 0};
+    bedside_lapjv_answer answer = bedside_lapjv(2, cost, 4, x, 2, y, 2);
+    printf("%-15s refusal %u turns %u scans %u x %u %u y %u %u\n", "lapjv", (unsigned)answer.refusal,
+           (unsigned)answer.turns, (unsigned)answer.scans, (unsigned)x[0], (unsigned)x[1], (unsigned)y[0], (unsigned)y[1]);
+    answer = bedside_lapjv(0, cost, 0, x, 0, y, 0);
+    printf("%-15s refusal %u turns %u scans %u\n", "lapjv, side 0", (unsigned)answer.refusal, (unsigned)answer.turns,
+           (unsigned)answer.scans);
+}
+
+int main(void)
+{
+    float_functions();
+    filter();
+    assignment();
     return 0;
 }

@@ -1,5 +1,8 @@
 // The C interface: each function of include/bedside.h is exported under its name there, and its
 // contract cites the same definition as the function that it calls.
+mod assignment;
+mod filter;
+
 ghost use mathlib.Core.Path.{_≡_};
 ghost use Rattle.floats.specs.Exponential as Exponential;
 ghost use Rattle.floats.specs.Pick as Pick;

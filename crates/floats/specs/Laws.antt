@@ -97,7 +97,7 @@ exp-zero false = refl
 
 -- ---- the last two of the thirteen terms are 0 for every remainder, so that S without them is the same number. t10 is 7 at most, and so not always 0.
 
-terms-grow : (r R k : ℕ) → r ≤ R → t r k ≤ t R k
+pub terms-grow : (r R k : ℕ) → r ≤ R → t r k ≤ t R k
 unfolding t
 terms-grow r R zero h = le-refl (2 ^ 30)
 terms-grow r R (suc k) h =

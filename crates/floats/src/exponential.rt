@@ -1,6 +1,6 @@
 // The exponential, in whole numbers.
 ghost use mathlib.Core.Path.{_≡_};
-ghost use Prim.Native.Nat.{_-_, _*_, _/_, _^_, _<_, _≤_};
+ghost use Prim.Native.Nat.{_+_, _-_, _*_, _/_, _^_, _<_, _≤_};
 ghost use Rattle.floats.specs.Exponential as Exponential;
 ghost use Rattle.floats.specs.Steps.{Splits, Summed};
 
@@ -79,20 +79,20 @@ fn split(z: i64) -> Divided
     }
 }
 
-// t(k), and the sum of t(0) to t(k).
+// t(k), and the sum of t(1) to t(k).
 struct Sum {
     last: u64,
-    total: u64,
+    above: u64,
 }
 
-// S: the sum of the terms t(0) to t(12) of r.
+// S: the sum of the terms t(0) to t(12) of r. From step 7 on the terms are small; step 8 divides by a shift in any case, and steps 11 and 12 add 0.
 fn summed(r: u64) -> u64
-    requires { ⌜ r < 2 ^ 30 ⌝ }
+    requires { ⌜ r < Exponential.L ⌝ }
     ensures { λ s. ⌜ s ≡ Exponential.S r 12 ⌝ }
 {
     let s = Sum {
         last: 0x4000_0000,
-        total: 0x4000_0000,
+        above: 0,
     };
     let s = one_more(1, s, r);
     let s = one_more(2, s, r);
@@ -100,23 +100,39 @@ fn summed(r: u64) -> u64
     let s = one_more(4, s, r);
     let s = one_more(5, s, r);
     let s = one_more(6, s, r);
-    let s = one_more(7, s, r);
+    let s = one_small(7, s, r);
     let s = one_more(8, s, r);
-    let s = one_more(9, s, r);
-    let s = one_more(10, s, r);
+    let s = one_small(9, s, r);
+    let s = one_small(10, s, r);
     let s = one_more(11, s, r);
     let s = one_more(12, s, r);
-    s.total
+    // S is below 2 ^ 31, so that the remainder changes nothing; it lets the compiler see where the top bit of S is.
+    0x4000_0000 + s.above % 0x4000_0000
 }
 
 // The sum with t(k) = t(k - 1) * r / (k * 2 ^ 30). The shift divides by 2 ^ 30; k is a literal where this is called, so that the compiler divides by multiplying.
 fn one_more(k: u64, s: Sum, r: u64) -> Sum
-    requires { ⌜ 0 < k ⌝ ∗ ⌜ k ≤ 12 ⌝ ∗ ⌜ Summed r (k - 1) (s .last) (s .total) ⌝ }
-    ensures { λ next. ⌜ Summed r k (next .last) (next .total) ⌝ }
+    requires { ⌜ 0 < k ⌝ ∗ ⌜ k ≤ 12 ⌝ ∗ ⌜ Summed r (k - 1) (s .last) (2 ^ 30 + s .above) ⌝ }
+    ensures { λ next. ⌜ Summed r k (next .last) (2 ^ 30 + next .above) ⌝ }
 {
     let last = ((s.last * r) >> 30) / k;
     Sum {
         last,
-        total: s.total + last,
+        above: s.above + last,
+    }
+}
+
+// The same where t(k - 1) is so small that r / k with 20 more places, rounded up, gives the same t(k).
+// That factor does not wait for t(k - 1): one multiplication follows it, where `one_more` has two.
+// The first bound on t(k - 1) is for what rounding up adds, the second keeps the product below 2 ^ 64.
+fn one_small(k: u64, s: Sum, r: u64) -> Sum
+    requires { ⌜ 0 < k ⌝ ∗ ⌜ k ≤ 12 ⌝ ∗ ⌜ Summed r (k - 1) (s .last) (2 ^ 30 + s .above) ⌝ ∗ ⌜ s .last * (k - 1) < 2 ^ 20 ⌝ ∗ ⌜ s .last * r < k * 2 ^ 44 ⌝ }
+    ensures { λ next. ⌜ Summed r k (next .last) (2 ^ 30 + next .above) ⌝ }
+{
+    let factor = (r * 0x10_0000 + (k - 1)) / k;
+    let last = (s.last * factor) >> 50;
+    Sum {
+        last,
+        above: s.above + last,
     }
 }

@@ -7,3 +7,8 @@ pub mod Tab
 pub mod Splice
 pub mod Laid
 pub mod Packed
+pub mod Total
+pub mod Below
+pub mod Swap
+pub mod Fuel
+pub mod Replicate

@@ -6,8 +6,8 @@ use borrow.Author.Needs.{needs}
 use Rattle.floats.proofs.exponential.one_more.Statement.{statement}
 use Rattle.floats.proofs.exponential.one_more.Tie as tie
 
-stepped : (c : tie.Start) → Stepped (c .args .r) (c .args .k) (c .args .s .last) (c .args .s .total)
-stepped c = step (c .args .r) (c .args .k) (c .args .s .last) (c .args .s .total) (c .pre .0) (c .pre .1 .1)
+stepped : (c : tie.Start) → Stepped (c .args .r) (c .args .k) (c .args .s .last) (c .args .s .above)
+stepped c = step (c .args .r) (c .args .k) (c .args .s .last) (c .args .s .above) (c .pre .0) (c .pre .1 .1)
 
 mul-last : tie.Need-mul-last
 mul-last c = fits-le (stepped (c .before) .product) (fits-lit tt)

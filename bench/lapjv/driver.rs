@@ -1,0 +1,132 @@
+//! The port's lapjv beside the published lapjv.rs, on the same matrices.
+//!
+//!     driver                      times of both
+//!     driver once WHOSE KIND N    one call, for a tool that counts instructions; WHOSE is port or published
+
+#[path = "../../oracle/lapjv/error.rs"]
+mod error;
+#[allow(dead_code)]
+#[path = "../../oracle/lapjv/matrices.rs"]
+mod matrices;
+#[allow(warnings)]
+mod lapjv {
+    include!(env!("LAPJV_RS"));
+}
+
+use std::time::Duration;
+
+#[repr(C)]
+struct LapjvAnswer {
+    refusal: u32,
+    turns: u64,
+    scans: u64,
+}
+
+#[link(name = "bedside", kind = "static")]
+extern "C" {
+    fn bedside_lapjv(
+        n: usize, cost: *const f64, cost_len: usize, x: *mut usize, x_len: usize, y: *mut usize, y_len: usize,
+    ) -> LapjvAnswer;
+}
+
+/// The C library's struct timespec.
+#[repr(C)]
+struct Timespec {
+    seconds: i64,
+    nanoseconds: i64,
+}
+
+extern "C" {
+    fn clock_gettime(clock: i32, now: *mut Timespec) -> i32;
+}
+
+/// The processor's time that this thread has had, so that other work on the machine counts little.
+fn thread_time() -> Duration {
+    const CLOCK_THREAD_CPUTIME_ID: i32 = 3;
+    let mut now = Timespec { seconds: 0, nanoseconds: 0 };
+    assert_eq!(unsafe { clock_gettime(CLOCK_THREAD_CPUTIME_ID, &mut now) }, 0);
+    Duration::new(now.seconds as u64, now.nanoseconds as u32)
+}
+
+/// A matrix as each side takes it, and room for its answer.
+struct Case {
+    n: usize,
+    flat: Vec<f64>,
+    rows: Vec<Vec<f64>>,
+    x: Vec<usize>,
+    y: Vec<usize>,
+    signed_x: Vec<isize>,
+    signed_y: Vec<isize>,
+}
+
+impl Case {
+    fn new(kind: &str, n: usize) -> Case {
+        let flat = matrices::matrix(kind, n);
+        let rows = matrices::rows(n, &flat);
+        Case { n, flat, rows, x: vec![0; n], y: vec![0; n], signed_x: vec![0; n], signed_y: vec![0; n] }
+    }
+
+    fn agrees(&self) -> bool {
+        let same = |a: &[usize], b: &[isize]| a.iter().zip(b).all(|(&p, &q)| p as isize == q);
+        same(&self.x, &self.signed_x) && same(&self.y, &self.signed_y)
+    }
+}
+
+#[inline(never)]
+#[no_mangle]
+fn call_port(case: &mut Case) {
+    let Case { n, flat, x, y, .. } = case;
+    let answer = unsafe { bedside_lapjv(*n, flat.as_ptr(), flat.len(), x.as_mut_ptr(), *n, y.as_mut_ptr(), *n) };
+    assert_eq!(answer.refusal, 0, "after {} turns and {} scans", answer.turns, answer.scans);
+}
+
+#[inline(never)]
+#[no_mangle]
+fn call_published(case: &mut Case) {
+    lapjv::lapjv(&mut case.rows, &mut case.signed_x, &mut case.signed_y).expect("an assignment");
+}
+
+fn time(call: fn(&mut Case), case: &mut Case, calls: u32) -> Duration {
+    let start = thread_time();
+    for _ in 0..calls {
+        call(case);
+    }
+    (thread_time() - start) / calls
+}
+
+/// The least time of a call, over rounds in which the two take turns.
+fn least_times(case: &mut Case) -> (Duration, Duration) {
+    let one = time(call_published, case, 1).max(Duration::from_nanos(1));
+    let calls = (Duration::from_millis(1).as_nanos() / one.as_nanos()).clamp(1, 10_000) as u32;
+    let mut least = (Duration::MAX, Duration::MAX);
+    for _ in 0..40 {
+        least.0 = least.0.min(time(call_port, case, calls));
+        least.1 = least.1.min(time(call_published, case, calls));
+    }
+    least
+}
+
+fn table() {
+    println!("| matrix | n | port, ns | published Rust, ns | ratio |");
+    println!("|---|---|---|---|---|");
+    for kind in ["uniform", "tied", "worst", "scans"] {
+        for n in [16, 64, 255] {
+            let mut case = Case::new(kind, n);
+            let (port, published) = least_times(&mut case);
+            assert!(case.agrees(), "{kind} {n}: different assignments");
+            let ratio = port.as_nanos() as f64 / published.as_nanos() as f64;
+            println!("| {kind} | {n} | {} | {} | {ratio:.2} |", port.as_nanos(), published.as_nanos());
+        }
+    }
+}
+
+fn main() {
+    let words: Vec<String> = std::env::args().skip(1).collect();
+    let words: Vec<&str> = words.iter().map(String::as_str).collect();
+    match words[..] {
+        [] => table(),
+        ["once", "port", kind, n] => call_port(&mut Case::new(kind, n.parse().expect("a side"))),
+        ["once", "published", kind, n] => call_published(&mut Case::new(kind, n.parse().expect("a side"))),
+        _ => panic!("usage: driver [once port|published KIND N]"),
+    }
+}

@@ -1,0 +1,3 @@
+-- Answers in C's form.
+pub mod Lapjv
+pub mod Filter

@@ -1,0 +1,2 @@
+-- Laws that the proofs share. Assumes nothing.
+pub mod Finite

@@ -1,0 +1,6 @@
+// Boxes, the filter and a track: the port of rect.rs, object.rs, kalman_filter.rs and strack.rs,
+// a module each, with every struct passed and returned by value.
+pub mod kalman_filter;
+pub mod object;
+pub mod rect;
+pub mod strack;
