@@ -1,11 +1,11 @@
 /* bedside.h: the proved parts of the tracker, for a recorder's firmware in C, C++ or Rust.
  *
  * Link libbedside.a (rt staticlib bedside), for x86-64 Linux. Nothing is allocated, nothing is kept
- * between calls, and no other library is needed. What a call returns is what the definition that its
- * contract in crates/bedside cites gives, bit for bit; only the sign and the payload of a NaN are left
- * open. No call can fail but by its refusal number, 0 where it is accepted; the numbers are those of the
- * scope document. A refused call changes no lent memory, and every other field of its answer is 0 unless
- * the field's comment says otherwise.
+ * between calls, and of other code memset alone is called. What a call returns is what the definition
+ * that its contract in crates/bedside cites gives, bit for bit; only the sign and the payload of a NaN
+ * are left open. No call can fail but by its refusal number, 0 where it is accepted; the numbers are
+ * those of the scope document. A refused call changes no lent memory, and every other field of its
+ * answer is 0 unless the field's comment says otherwise.
  *
  * A pointer comes with the number of its elements or points to as many as its type says, is aligned for
  * its type, and may be anything where that number is 0. Slices that are lent together do not overlap.
@@ -29,7 +29,8 @@ float bedside_powi(float c, int32_t e); /* c to the power e */
 float bedside_powf_1_5(float m);        /* m * bedside_sqrt(m) */
 float bedside_exp(float a);             /* e to the power a */
 
-/* ---- filter: predict and the conversions accept everything; correct alone may refuse, with 12 ---- */
+/* ---- filter: predict and the conversions accept everything; correct alone may refuse, with 12, where
+ * a + r is not positive and finite; r is the noise: 1 for x and y, 10 for h, 0.01 for r ---- */
 typedef struct {
     float p, v, a, b, c, d; /* position, speed, covariances (rows: a b, c d) */
 } bedside_pair;
@@ -44,9 +45,10 @@ bedside_pair bedside_pair_predict(bedside_pair pair);
 bedside_corrected bedside_pair_correct(bedside_pair pair, float z, float r);
 void bedside_convert_bbox_to_z(const float bbox[4], float z[4]); /* x1, y1, x2, y2 to x, y, h, r */
 void bedside_convert_z_to_bbox(const float z[4], float bbox[4]);
+/* coef to the power 7 - age for an age below 7, else to the power time_since_update - 1 */
 float bedside_confidence(uint64_t age, uint64_t time_since_update, float coef);
 
-/* ---- assignment: 21, 22, 23 ----
+/* ---- assignment: 21 side 0, 22 side above 255, 23 cost_len not n * n, or x_len or y_len not n ----
  * x[i] is the column of row i, y[j] the row of column j. */
 typedef struct {
     uint32_t refusal;

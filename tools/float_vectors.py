@@ -140,8 +140,9 @@ def root(a):
         return NAN
     if is_infinite(a):
         return a
-    # the root is that of n / 2^200. Where n is no square it lies between whole and whole + 1, and every f32
-    # and every point half way between two is a whole number of 2^-150: so whole + 1/2 rounds as the root does
+    # the root is the root of n, divided by 2^200. Where n is no square, its root lies between whole and
+    # whole + 1, and every f32 and every point half way between two is a whole number of 2^-150: so
+    # whole + 1/2 rounds as the root does
     n = value(a) * 4**200
     assert n.denominator == 1
     whole = isqrt(n.numerator)

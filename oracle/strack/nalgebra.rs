@@ -1,6 +1,6 @@
 // A stand-in for the crate nalgebra: the operations that kalman_filter.rs, strack.rs and rect.rs use,
 // on plain arrays, each operation rounded once. A product sums its terms in ascending order of the
-// inner index, from the first term on, as nalgebra does for matrices of these sizes; nothing is fused.
+// inner index, from the first term on, which gives the scope document's formulas; nothing is fused.
 use std::ops::{Add, AddAssign, Index, IndexMut, Mul, MulAssign, Sub};
 
 // Column by column, as nalgebra stores it.
