@@ -8,12 +8,14 @@
  * answer is 0 unless the field's comment says otherwise.
  *
  * A pointer comes with the number of its elements or points to as many as its type says, is aligned for
- * its type, and may be anything where that number is 0. Slices that are lent together do not overlap.
- * The arrays that a call needs besides are on the stack: at most 32 KiB.
+ * its type, and may be anything where that number is 0. Slices that are lent together do not overlap. A
+ * bool is 0 or 1. Matrices are flat, row by row, a row for each box and a cell for each track. The arrays
+ * that a call needs besides are on the stack: at most 32 KiB.
  */
 #ifndef BEDSIDE_H
 #define BEDSIDE_H
 
+#include <stdbool.h>
 #include <stddef.h>
 #include <stdint.h>
 
@@ -58,6 +60,76 @@ typedef struct {
 
 bedside_lapjv_answer bedside_lapjv(size_t n, const double *cost, size_t cost_len, size_t *x, size_t x_len,
                                    size_t *y, size_t y_len);
+
+/* ---- pairs: 31 more than 255 boxes or tracks, 32 an input of another length than the sides say, 33 a
+ * result or work slice too short; the lowest that applies is said ----
+ * Corners are 4 floats each: x1, y1, x2, y2. A matrix has boxes * tracks cells. Results may be longer than
+ * they have to be: what is not needed of them is left as it was. Work slices have at least n * n doubles,
+ * and for associate 4 * n * n floats, n the larger side even where the other is 0; after an accepted call
+ * every lent cell of them is 0. Zero boxes or zero tracks is accepted. */
+uint32_t bedside_iou_batch(size_t boxes, size_t tracks, const float *detections, size_t detections_len,
+                           const float *corners, size_t corners_len, float *out, size_t out_len);
+uint32_t bedside_soft_biou_batch(size_t boxes, size_t tracks, const float *detections, size_t detections_len,
+                                 const float *corners, size_t corners_len, const float *track_confidences,
+                                 size_t track_confidences_len, float *out, size_t out_len);
+uint32_t bedside_shape_similarity_v1(size_t boxes, size_t tracks, const float *detections, size_t detections_len,
+                                     const float *corners, size_t corners_len, float *out, size_t out_len);
+uint32_t bedside_shape_similarity_v2(size_t boxes, size_t tracks, const float *detections, size_t detections_len,
+                                     const float *corners, size_t corners_len, float *out, size_t out_len);
+uint32_t bedside_mh_dist_similarity(size_t boxes, size_t tracks, const float *distance, size_t distance_len,
+                                    float softmax_temp, float *out, size_t out_len);
+
+typedef struct {
+    uint32_t refusal;
+    uint64_t pairs; /* pair k is pair_boxes[k] and pair_tracks[k], boxes ascending */
+    uint64_t turns; /* lapjv's, both 0 on the direct path */
+    uint64_t scans;
+} bedside_matched;
+
+/* The two halves of the pairs have at least the smaller side's length. */
+bedside_matched bedside_match_detections(size_t boxes, size_t tracks, const float *cost, size_t cost_len,
+                                         float threshold, size_t *pair_boxes, size_t pair_boxes_len,
+                                         size_t *pair_tracks, size_t pair_tracks_len, double *work,
+                                         size_t work_len);
+
+typedef struct {
+    uint32_t refusal;
+    uint64_t pairs;
+    uint64_t unmatched_detections;
+    uint64_t unmatched_tracks;
+    uint64_t turns;
+    uint64_t scans;
+} bedside_assignment;
+
+/* The pairs whose IoU is at least the threshold. An unmatched list has at least as many places as there are
+ * boxes or tracks: ascending, then those of the rejected pairs in pair order. */
+bedside_assignment bedside_linear_assignment(size_t boxes, size_t tracks, const float *iou, size_t iou_len,
+                                             const float *cost, size_t cost_len, float threshold,
+                                             size_t *pair_boxes, size_t pair_boxes_len, size_t *pair_tracks,
+                                             size_t pair_tracks_len, size_t *unmatched_detections,
+                                             size_t unmatched_detections_len, size_t *unmatched_tracks,
+                                             size_t unmatched_tracks_len, double *work, size_t work_len);
+
+typedef struct {
+    float iou_threshold;
+    float lambda_iou;
+    float lambda_mhd;
+    float lambda_shape;
+    bool use_shape_similarity_correction;
+    bool has_mahalanobis; /* where false, the slice's length and cells are not looked at */
+    bool has_confidence;  /* both confidences together, in the same way */
+} bedside_associate_params;
+
+bedside_assignment bedside_associate(bedside_associate_params params, size_t boxes, size_t tracks,
+                                     const float *detections, size_t detections_len, const float *corners,
+                                     size_t corners_len, const float *mahalanobis, size_t mahalanobis_len,
+                                     const float *track_confidence, size_t track_confidence_len,
+                                     const float *detection_confidence, size_t detection_confidence_len,
+                                     size_t *pair_boxes, size_t pair_boxes_len, size_t *pair_tracks,
+                                     size_t pair_tracks_len, size_t *unmatched_detections,
+                                     size_t unmatched_detections_len, size_t *unmatched_tracks,
+                                     size_t unmatched_tracks_len, double *work64, size_t work64_len,
+                                     float *work32, size_t work32_len);
 
 #ifdef __cplusplus
 }

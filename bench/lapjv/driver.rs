@@ -3,6 +3,8 @@
 //!     driver                      times of both
 //!     driver once WHOSE KIND N    one call, for a tool that counts instructions; WHOSE is port or published
 
+#[path = "../clock.rs"]
+mod clock;
 #[path = "../../oracle/lapjv/error.rs"]
 mod error;
 #[allow(dead_code)]
@@ -13,6 +15,7 @@ mod lapjv {
     include!(env!("LAPJV_RS"));
 }
 
+use clock::thread_time;
 use std::time::Duration;
 
 #[repr(C)]
@@ -27,25 +30,6 @@ extern "C" {
     fn bedside_lapjv(
         n: usize, cost: *const f64, cost_len: usize, x: *mut usize, x_len: usize, y: *mut usize, y_len: usize,
     ) -> LapjvAnswer;
-}
-
-/// The C library's struct timespec.
-#[repr(C)]
-struct Timespec {
-    seconds: i64,
-    nanoseconds: i64,
-}
-
-extern "C" {
-    fn clock_gettime(clock: i32, now: *mut Timespec) -> i32;
-}
-
-/// The processor's time that this thread has had, so that other work on the machine counts little.
-fn thread_time() -> Duration {
-    const CLOCK_THREAD_CPUTIME_ID: i32 = 3;
-    let mut now = Timespec { seconds: 0, nanoseconds: 0 };
-    assert_eq!(unsafe { clock_gettime(CLOCK_THREAD_CPUTIME_ID, &mut now) }, 0);
-    Duration::new(now.seconds as u64, now.nanoseconds as u32)
 }
 
 /// A matrix as each side takes it, and room for its answer.

@@ -1,4 +1,4 @@
-/* Calls each function of libbedside.a and prints what came back: the call, the bits, the value. */
+/* Calls functions of each part of libbedside.a and prints what came back: the call, the bits, the value. */
 #include <math.h>
 #include <stdio.h>
 #include <string.h>
@@ -68,10 +68,47 @@ static void assignment(void)
            (unsigned)answer.scans);
 }
 
+/* Two boxes and two tracks in each other's order, one pair after the other; then a list that is too short. */
+static void pairs(void)
+{
+    const float boxes[8] = {0, 0, 10, 10, 20, 0, 30, 10};
+    const float tracks[8] = {21, 0, 31, 10, 5, 0, 15, 10};
+    float iou[4];
+    uint32_t refusal = bedside_iou_batch(2, 2, boxes, 8, tracks, 8, iou, 4);
+    printf("%-15s refusal %u\n", "iou_batch", (unsigned)refusal);
+    show("iou of 0, 1", iou[1]);
+
+    const bedside_associate_params params = {0.3f, 0.5f, 0.25f, 0.25f, true, false, false};
+    size_t pair_boxes[2], pair_tracks[2], left_boxes[2], left_tracks[2];
+    double work64[4];
+    float work32[16];
+    bedside_assignment answer =
+        bedside_associate(params, 2, 2, boxes, 8, tracks, 8, NULL, 0, NULL, 0, NULL, 0, pair_boxes, 2, pair_tracks, 2,
+                          left_boxes, 2, left_tracks, 2, work64, 4, work32, 16);
+    printf("%-15s refusal %u pairs %u: %u %u, %u %u\n", "associate", (unsigned)answer.refusal,
+           (unsigned)answer.pairs, (unsigned)pair_boxes[0], (unsigned)pair_tracks[0], (unsigned)pair_boxes[1],
+           (unsigned)pair_tracks[1]);
+
+    const float equal[4] = {0.5f, 0.5f, 0.5f, 0.5f};
+    bedside_matched matched =
+        bedside_match_detections(2, 2, equal, 4, 0.3f, pair_boxes, 2, pair_tracks, 2, work64, 4);
+    printf("%-15s refusal %u pairs %u: %u %u, %u %u turns %u scans %u\n", "match, equal", (unsigned)matched.refusal,
+           (unsigned)matched.pairs, (unsigned)pair_boxes[0], (unsigned)pair_tracks[0], (unsigned)pair_boxes[1],
+           (unsigned)pair_tracks[1], (unsigned)matched.turns, (unsigned)matched.scans);
+    answer = bedside_linear_assignment(2, 2, iou, 4, iou, 4, 0.5f, pair_boxes, 2, pair_tracks, 2, left_boxes, 2,
+                                       left_tracks, 2, work64, 4);
+    printf("%-15s refusal %u pairs %u: %u %u left %u %u\n", "linear, 0.5", (unsigned)answer.refusal,
+           (unsigned)answer.pairs, (unsigned)pair_boxes[0], (unsigned)pair_tracks[0], (unsigned)left_boxes[0],
+           (unsigned)left_tracks[0]);
+    matched = bedside_match_detections(2, 2, equal, 4, 0.3f, pair_boxes, 1, pair_tracks, 2, work64, 4);
+    printf("%-15s refusal %u pairs %u\n", "match, short", (unsigned)matched.refusal, (unsigned)matched.pairs);
+}
+
 int main(void)
 {
     float_functions();
     filter();
     assignment();
+    pairs();
     return 0;
 }

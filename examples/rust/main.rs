@@ -1,4 +1,4 @@
-//! Calls each function of libbedside.a and prints what came back: the call, the bits, the value.
+//! Calls functions of each part of libbedside.a and prints what came back: the call, the bits, the value.
 
 mod bedside {
     #[derive(Clone, Copy)]
@@ -25,6 +25,46 @@ mod bedside {
         pub scans: u64,
     }
 
+    #[repr(C)]
+    pub struct Matched {
+        pub refusal: u32,
+        pub pairs: u64,
+        pub turns: u64,
+        pub scans: u64,
+    }
+
+    #[repr(C)]
+    pub struct Assignment {
+        pub refusal: u32,
+        pub pairs: u64,
+        pub unmatched_detections: u64,
+        pub unmatched_tracks: u64,
+        pub turns: u64,
+        pub scans: u64,
+    }
+
+    #[derive(Clone, Copy)]
+    #[repr(C)]
+    pub struct AssociateParams {
+        pub iou_threshold: f32,
+        pub lambda_iou: f32,
+        pub lambda_mhd: f32,
+        pub lambda_shape: f32,
+        pub use_shape_similarity_correction: bool,
+        pub has_mahalanobis: bool,
+        pub has_confidence: bool,
+    }
+
+    /// The lists of an assignment, and the work slices.
+    pub struct Room<'a> {
+        pub pair_boxes: &'a mut [usize],
+        pub pair_tracks: &'a mut [usize],
+        pub left_boxes: &'a mut [usize],
+        pub left_tracks: &'a mut [usize],
+        pub work64: &'a mut [f64],
+        pub work32: &'a mut [f32],
+    }
+
     #[link(name = "bedside", kind = "static")]
     extern "C" {
         fn bedside_max(a: f32, b: f32) -> f32;
@@ -42,6 +82,29 @@ mod bedside {
         fn bedside_lapjv(
             n: usize, cost: *const f64, cost_len: usize, x: *mut usize, x_len: usize, y: *mut usize, y_len: usize,
         ) -> LapjvAnswer;
+        fn bedside_iou_batch(
+            boxes: usize, tracks: usize, detections: *const f32, detections_len: usize, corners: *const f32,
+            corners_len: usize, out: *mut f32, out_len: usize,
+        ) -> u32;
+        fn bedside_match_detections(
+            boxes: usize, tracks: usize, cost: *const f32, cost_len: usize, threshold: f32, pair_boxes: *mut usize,
+            pair_boxes_len: usize, pair_tracks: *mut usize, pair_tracks_len: usize, work: *mut f64, work_len: usize,
+        ) -> Matched;
+        fn bedside_linear_assignment(
+            boxes: usize, tracks: usize, iou: *const f32, iou_len: usize, cost: *const f32, cost_len: usize,
+            threshold: f32, pair_boxes: *mut usize, pair_boxes_len: usize, pair_tracks: *mut usize,
+            pair_tracks_len: usize, unmatched_detections: *mut usize, unmatched_detections_len: usize,
+            unmatched_tracks: *mut usize, unmatched_tracks_len: usize, work: *mut f64, work_len: usize,
+        ) -> Assignment;
+        fn bedside_associate(
+            params: AssociateParams, boxes: usize, tracks: usize, detections: *const f32, detections_len: usize,
+            corners: *const f32, corners_len: usize, mahalanobis: *const f32, mahalanobis_len: usize,
+            track_confidence: *const f32, track_confidence_len: usize, detection_confidence: *const f32,
+            detection_confidence_len: usize, pair_boxes: *mut usize, pair_boxes_len: usize, pair_tracks: *mut usize,
+            pair_tracks_len: usize, unmatched_detections: *mut usize, unmatched_detections_len: usize,
+            unmatched_tracks: *mut usize, unmatched_tracks_len: usize, work64: *mut f64, work64_len: usize,
+            work32: *mut f32, work32_len: usize,
+        ) -> Assignment;
     }
 
     // SAFETY, of each: the function is proved to accept every value, and touches no memory but what it is
@@ -101,6 +164,51 @@ mod bedside {
     pub fn lapjv(n: usize, cost: &[f64], x: &mut [usize], y: &mut [usize]) -> LapjvAnswer {
         unsafe { bedside_lapjv(n, cost.as_ptr(), cost.len(), x.as_mut_ptr(), x.len(), y.as_mut_ptr(), y.len()) }
     }
+
+    pub fn iou_batch(boxes: usize, tracks: usize, d: &[f32], t: &[f32], out: &mut [f32]) -> u32 {
+        let out_len = out.len();
+        unsafe {
+            bedside_iou_batch(boxes, tracks, d.as_ptr(), d.len(), t.as_ptr(), t.len(), out.as_mut_ptr(), out_len)
+        }
+    }
+
+    pub fn match_detections(boxes: usize, tracks: usize, cost: &[f32], threshold: f32, room: &mut Room) -> Matched {
+        let Room { pair_boxes: p, pair_tracks: q, work64: w, .. } = room;
+        unsafe {
+            bedside_match_detections(
+                boxes, tracks, cost.as_ptr(), cost.len(), threshold, p.as_mut_ptr(), p.len(), q.as_mut_ptr(), q.len(),
+                w.as_mut_ptr(), w.len(),
+            )
+        }
+    }
+
+    pub fn linear_assignment(
+        boxes: usize, tracks: usize, iou: &[f32], cost: &[f32], threshold: f32, room: &mut Room,
+    ) -> Assignment {
+        let Room { pair_boxes: p, pair_tracks: q, left_boxes: l, left_tracks: m, work64: w, .. } = room;
+        unsafe {
+            bedside_linear_assignment(
+                boxes, tracks, iou.as_ptr(), iou.len(), cost.as_ptr(), cost.len(), threshold, p.as_mut_ptr(), p.len(),
+                q.as_mut_ptr(), q.len(), l.as_mut_ptr(), l.len(), m.as_mut_ptr(), m.len(), w.as_mut_ptr(), w.len(),
+            )
+        }
+    }
+
+    /// By the overlap alone: without distances and confidences.
+    pub fn associate(
+        params: AssociateParams, boxes: usize, tracks: usize, d: &[f32], t: &[f32], room: &mut Room,
+    ) -> Assignment {
+        let Room { pair_boxes: p, pair_tracks: q, left_boxes: l, left_tracks: m, work64: w, work32: f } = room;
+        let none: [f32; 0] = [];
+        unsafe {
+            bedside_associate(
+                AssociateParams { has_mahalanobis: false, has_confidence: false, ..params }, boxes, tracks, d.as_ptr(),
+                d.len(), t.as_ptr(), t.len(), none.as_ptr(), 0, none.as_ptr(), 0, none.as_ptr(), 0, p.as_mut_ptr(),
+                p.len(), q.as_mut_ptr(), q.len(), l.as_mut_ptr(), l.len(), m.as_mut_ptr(), m.len(), w.as_mut_ptr(),
+                w.len(), f.as_mut_ptr(), f.len(),
+            )
+        }
+    }
 }
 
 fn show(call: &str, result: f32) {
@@ -158,8 +266,53 @@ fn assignment() {
     println!("{:15} refusal {} turns {} scans {}", "lapjv, side 0", answer.refusal, answer.turns, answer.scans);
 }
 
+// Two boxes and two tracks in each other's order, one pair after the other; then a list that is too short.
+fn pairs() {
+    let (boxes, tracks) = ([0.0, 0.0, 10.0, 10.0, 20.0, 0.0, 30.0, 10.0], [21.0, 0.0, 31.0, 10.0, 5.0, 0.0, 15.0, 10.0]);
+    let mut iou = [0.0; 4];
+    println!("{:15} refusal {}", "iou_batch", bedside::iou_batch(2, 2, &boxes, &tracks, &mut iou));
+    show("iou of 0, 1", iou[1]);
+
+    let mut lists = [[0; 2]; 4];
+    let [pair_boxes, pair_tracks, left_boxes, left_tracks] = &mut lists;
+    let (mut work64, mut work32) = ([0.0; 4], [0.0; 16]);
+    let mut room = bedside::Room {
+        pair_boxes,
+        pair_tracks,
+        left_boxes,
+        left_tracks,
+        work64: &mut work64,
+        work32: &mut work32,
+    };
+    let params = bedside::AssociateParams {
+        iou_threshold: 0.3,
+        lambda_iou: 0.5,
+        lambda_mhd: 0.25,
+        lambda_shape: 0.25,
+        use_shape_similarity_correction: true,
+        has_mahalanobis: false,
+        has_confidence: false,
+    };
+    let pair = |r: &bedside::Room, k: usize| format!("{} {}", r.pair_boxes[k], r.pair_tracks[k]);
+    let a = bedside::associate(params, 2, 2, &boxes, &tracks, &mut room);
+    let both = format!("{}, {}", pair(&room, 0), pair(&room, 1));
+    println!("{:15} refusal {} pairs {}: {both}", "associate", a.refusal, a.pairs);
+
+    let m = bedside::match_detections(2, 2, &[0.5; 4], 0.3, &mut room);
+    let both = format!("{}, {}", pair(&room, 0), pair(&room, 1));
+    let counts = format!("turns {} scans {}", m.turns, m.scans);
+    println!("{:15} refusal {} pairs {}: {both} {counts}", "match, equal", m.refusal, m.pairs);
+    let a = bedside::linear_assignment(2, 2, &iou, &iou, 0.5, &mut room);
+    let left = format!("{} {}", room.left_boxes[0], room.left_tracks[0]);
+    println!("{:15} refusal {} pairs {}: {} left {left}", "linear, 0.5", a.refusal, a.pairs, pair(&room, 0));
+    let short = &mut bedside::Room { pair_boxes: &mut room.pair_boxes[..1], ..room };
+    let m = bedside::match_detections(2, 2, &[0.5; 4], 0.3, short);
+    println!("{:15} refusal {} pairs {}", "match, short", m.refusal, m.pairs);
+}
+
 fn main() {
     float_functions();
     filter();
     assignment();
+    pairs();
 }

@@ -1,3 +1,4 @@
 -- Answers in C's form.
 pub mod Lapjv
 pub mod Filter
+pub mod Pairs

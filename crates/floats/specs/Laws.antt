@@ -12,17 +12,17 @@ use Prim.Native.Nat.{ℕ, zero, suc, _+_, _-_, _*_, _/_, _%_, _^_, _≤_, _<_}
 use native.Mathlib.Nat.{le-refl, mul-le-mul, mul-le-mul-right, mod-lt, div-add-mod', suc-mul, mul-pos, zero-lt-suc, zero-mul, sub-self}
 use native.Mathlib.Omega.{arith}
 use lib.Dec.{T, ltb, eqb, lt→ltb, ltb→lt, lit<}
-use borrow.Author.Tests.{lt-ltb, ltb-true, eq-eqb}
+use borrow.Author.Tests.{lt-ltb, le-ltb, ltb-true, eq-eqb}
 use lib.Pow.{pow-pos}
 use lib.IntN.{ℤ, pos, negsuc, negℤ, _+ℤ_, _*ℤ_}
-use lib.Ieee.{Float, nan, inf, fin, binary32, up, down, fits, units, ofBits, neg, add, sub, sum, lt, eq, le, isNan, ofInt, round}
+use lib.Ieee.{Float, nan, inf, fin, binary32, up, down, fits, odd, units, ofBits, neg, add, sub, sum, lt, eq, le, isNan, ofInt, round}
 use lib.Ieee.Exact.{HasValue, round-exact}
 use lib.Ieee.Nearest.{div-mono}
-use lib.Ieee.Fits.{up-pos, down-pos}
+use lib.Ieee.Fits.{up-pos, down-pos, round-is}
 use lib.Ieee.Positive.{positive, positive-finite, positive-of-value}
 use Rattle.floats.specs.Root.{root}
 use Rattle.floats.specs.Power.{one}
-use Rattle.floats.specs.Exponential.{quotient, remainder, L, t, exp}
+use Rattle.floats.specs.Exponential.{quotient, remainder, Q, L, t, ofQ, ofFinite, exp}
 use Rattle.floats.specs.Steps.{Parts}
 use Rattle.floats.specs.Laws.Fields.{parts-of}
 use Rattle.floats.specs.Laws.Nearest.{parts-above, square-value, found}
@@ -94,6 +94,52 @@ pub exp-zero : (s : Bool) → exp (fin s 0 (pos 0)) ≡ one
 unfolding exp isNan le ofInt one ofBits
 exp-zero true = refl
 exp-zero false = refl
+
+-- ---- exp is never below zero
+
+-- what has no sign is not
+unsigned : (m : ℕ) (e : ℤ) → lt (fin false m e) (ofBits binary32 0) ≡ false
+unfolding lt ofBits
+unsigned m e = let z : 0 * down e ≡ 0 = zero-mul (down e) in le-ltb (m * up e * 1) (0 * down e) (omega arith)
+
+unsigned-odd : (d q k l : ℕ) → lt (odd d false q k l) (ofBits binary32 0) ≡ false
+unfolding odd
+unsigned-odd d zero k l = unsigned 0 (pos 0)
+unsigned-odd d (suc q) k l = unsigned _ _
+
+unsigned-units : (q k : ℕ) → lt (units binary32 false q k) (ofBits binary32 0) ≡ false
+unfolding units lt ofBits
+unsigned-units q k = by-test (ltb (q * 2 ^ k) (2 ^ 277))
+  where
+    by-test : (b : Bool) → lt (cond b (odd 25 false q k 149) (inf false)) (ofBits binary32 0) ≡ false
+    by-test true = unsigned-odd 25 q k 149
+    by-test false = refl
+
+unsigned-rounded : (z : ℤ) → lt (ofQ z) (ofBits binary32 0) ≡ false
+unfolding ofQ
+unsigned-rounded z = rw round-is (unsigned-units _ _)
+
+finite-not-below : (a : Float) → lt (ofFinite a) (ofBits binary32 0) ≡ false
+unfolding ofFinite lt
+finite-not-below nan = refl
+finite-not-below (inf s) = refl
+finite-not-below (fin s m e) = unsigned-rounded (Q s m e)
+
+nan-not-below : (a : Float) → isNan a ≡ true → lt a (ofBits binary32 0) ≡ false
+unfolding isNan lt
+nan-not-below nan e = refl
+nan-not-below (inf s) e = absurd (true≢false (sym e))
+nan-not-below (fin s m e) h = absurd (true≢false (sym h))
+
+pub exp-not-below : (a : Float) → lt (exp a) (ofBits binary32 0) ≡ false
+unfolding exp lt ofBits
+exp-not-below a = by-tests (isNan a) (le (ofInt binary32 (pos 89)) a) (le a (ofInt binary32 (negsuc 103))) (nan-not-below a)
+  where
+    by-tests : (n h l : Bool) → (n ≡ true → lt a (ofBits binary32 0) ≡ false) → lt (cond n a (cond h (inf false) (cond l (fin false 0 (pos 0)) (ofFinite a)))) (ofBits binary32 0) ≡ false
+    by-tests true h l e = e refl
+    by-tests false true l e = refl
+    by-tests false false true e = unsigned 0 (pos 0)
+    by-tests false false false e = finite-not-below a
 
 -- ---- the last two of the thirteen terms are 0 for every remainder, so that S without them is the same number. t10 is 7 at most, and so not always 0.
 

@@ -40,7 +40,7 @@ fn rooted(digits: u32, place: u32) -> f32
     }
 }
 
-// The whole part of the root of n. Whatever the guess, the tests on whole numbers alone decide. Tried for every f32, the guess is off by one at most.
+// The whole part of the root of n. Whatever the guess, the tests on whole numbers alone decide; a close guess keeps them few.
 fn whole_root(n: u64) -> u64
     requires { ⌜ n < 2 ^ 48 ⌝ }
     ensures { λ r. ⌜ r ≡ Root.wholeRoot 24 n ⌝ }

@@ -9,9 +9,9 @@ use lib.ListN.{length}
 use lib.Ieee.{Float}
 use Rattle.laws.specs.Choose.{cond-no, cond-yes}
 use Rattle.lapjv.specs.Answers.{refusalNumber, verdictOf, numberOf, turnsOf, scansOf, answerFor, slice, Answered}
-use Rattle.lapjv.specs.Bounds.{Bounds, Paired}
-use Rattle.lapjv.specs.Invariant.{Ready}
-use Rattle.lapjv.specs.Lapjv.{Assignment, assignment, lapjv}
+use Rattle.lapjv_definition.specs.Bounds.{Bounds, Paired}
+use Rattle.lapjv_definition.specs.Invariant.{Ready}
+use Rattle.lapjv_definition.specs.Lapjv.{Assignment, assignment, lapjv}
 use Rattle.lapjv.specs.declared.Answer.the-variants.{Assigned, Refused}
 use Rattle.lapjv.specs.declared.Answer.{Answer}
 use Rattle.lapjv.specs.declared.Counts.{Counts}
@@ -19,7 +19,7 @@ use Rattle.lapjv.specs.declared.Refusal.the-variants.{NoSide, SideAbove2
 use Rattle.lapjv.specs.declared.Refusal.{Refusal}
 use Rattle.lapjv.specs.declared.Verdict.the-variants.{Fits, Unfit}
 use Rattle.lapjv.specs.declared.Verdict.{Verdict}
-use Rattle.lapjv.proofs.Theorem.{bounds}
+use Rattle.lapjv_definition.proofs.Theorem.{bounds}
 
 -- ---- the verdict
 

@@ -6,8 +6,8 @@ use Prim.Native.Nat.{ℕ, _*_, _-_, _/_, _≤_}
 use lib.Dec.{ltb, eqb}
 use lib.ListN.{length}
 use lib.Ieee.{Float}
-use Rattle.lapjv.specs.Bounds.{Paired}
-use Rattle.lapjv.specs.Lapjv.{lapjv}
+use Rattle.lapjv_definition.specs.Bounds.{Paired}
+use Rattle.lapjv_definition.specs.Lapjv.{lapjv}
 use Rattle.lapjv.specs.declared.Answer.the-variants.{Assigned, Refused}
 use Rattle.lapjv.specs.declared.Answer.{Answer}
 use Rattle.lapjv.specs.declared.Counts.{Counts}

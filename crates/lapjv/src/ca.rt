@@ -2,8 +2,8 @@
 ghost use mathlib.Core.Path.{_≡_};
 ghost use Prim.Native.Nat.{_≤_};
 ghost use lib.ListN.{length};
-ghost use Rattle.lapjv.specs.Ca.{augmented, augmentFrom, assigned, caDense};
-ghost use Rattle.lapjv.specs.Invariant.{Square, Holed, CaOk};
+ghost use Rattle.lapjv_definition.specs.Ca.{augmented, augmentFrom, assigned, caDense};
+ghost use Rattle.lapjv_definition.specs.Invariant.{Square, Holed, CaOk};
 ghost use Rattle.laws.specs.Below.{Below};
 use crate::entry::row_of;
 use crate::path::find_path_dense;

@@ -6,22 +6,16 @@ ghost use Prim.Native.Nat.{_<_, _≤_};
 ghost use lib.Dec.{ltb};
 ghost use lib.ListN.{length, getD, set};
 ghost use lib.Ieee.{Float, lt};
-ghost use Rattle.lapjv.specs.Carr.{twoStep, carrTwo, carrying, carrTurn, carrDence};
-ghost use Rattle.lapjv.specs.Invariant.{Square};
-ghost use Rattle.lapjv.specs.Steps.{carrTake, carrPick};
+ghost use Rattle.lapjv_definition.specs.Carr.{twoStep, carrTwo, carrying, carrTurn, carrDence};
+ghost use Rattle.lapjv_definition.specs.Invariant.{Square};
+ghost use Rattle.lapjv_definition.specs.Steps.{carrTake, carrPick};
 ghost use Rattle.laws.specs.Below.{Below};
 use crate::cost::LARGE;
 use crate::cost::at;
 use crate::entry::is_free;
 use crate::entry::row_of;
-
-// The columns and the values of a row's least reduced cost and of the next one.
-struct Two {
-    j1: usize,
-    j2: usize,
-    v1: f64,
-    v2: f64,
-}
+use lapjv_definition::Pick;
+use lapjv_definition::Two;
 
 // Lines 109 to 119: column j, whose reduced cost is c.
 fn two_step(c: f64, j: usize, t: Two) -> Two
@@ -117,13 +111,8 @@ fn carr_take(
     }
 }
 
-// The column that a row takes, and whether that one's row has another turn in this round.
-struct Pick {
-    j: usize,
-    retry: bool,
-}
-
-// Lines 126 to 132, with no store: the column that the row takes, and whether `current` goes back by one.
+// Lines 126 to 132 without the store of line 128, where early is the test of line 126: the column that the row takes, and whether the row that had it
+// has the next turn.
 fn carr_pick(n: usize, early: bool, v1_new: f64, vj1: f64, i0: usize, j1: usize, j2: usize) -> Pick
     ensures { λ r. ⌜ r ≡ carrPick early (lt «v1_new» vj1) (ltb i0 n) (ltb j2 n) j1 j2 ⌝ }
 {
@@ -154,7 +143,7 @@ fn carr_pick(n: usize, early: bool, v1_new: f64, vj1: f64, i0: usize, j1: usize,
     }
 }
 
-// Line 128.
+// Line 128, where lower says that its tests, lines 126 and 127, both hold.
 fn carr_lower(lower: bool, j: usize, v1_new: f64, v: &mut [f64])
     requires { ⌜ j < length (now v) ⌝ }
     ensures { λ _. ⌜ now (v .exit) ≡ cond lower (set (now (v .entry)) j «v1_new») (now (v .entry)) ⌝ }

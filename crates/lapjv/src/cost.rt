@@ -1,8 +1,8 @@
 // The cost matrix, one slice row by row, and the Rust's LARGE.
 ghost use mathlib.Core.Path.{_≡_};
 ghost use Prim.Native.Nat.{_<_};
-ghost use Rattle.lapjv.specs.Invariant.{Square};
-ghost use Rattle.lapjv.specs.Cost as Cost;
+ghost use Rattle.lapjv_definition.specs.Invariant.{Square};
+ghost use Rattle.lapjv_definition.specs.Cost as Cost;
 
 pub(crate) const LARGE: f64 = 1000000.0;
 

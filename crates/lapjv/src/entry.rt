@@ -1,12 +1,7 @@
 // The entries of x and y. They are numbers, an index or n where the Rust has -1, and are looked at only here.
 ghost use mathlib.Core.Path.{_≡_};
-ghost use Rattle.lapjv.specs.Entry.{ownerOf, isFree, rowOf};
-
-// An entry of x or y: taken by a row (in x, by a column), or free.
-enum Owner {
-    Row(usize),
-    Free,
-}
+ghost use Rattle.lapjv_definition.specs.Entry.{ownerOf, isFree, rowOf};
+use lapjv_definition::Owner;
 
 // The entry r of x or y.
 fn owner_of(n: usize, r: usize) -> Owner

@@ -2,7 +2,7 @@
 ghost use mathlib.Core.Path.{_≡_};
 ghost use Prim.Native.Nat.{_<_, _≤_};
 ghost use lib.ListN.{length};
-ghost use Rattle.lapjv.specs.Find.{finding, findStep, findDense};
+ghost use Rattle.lapjv_definition.specs.Find.{finding, findStep, findDense};
 ghost use Rattle.laws.specs.Below.{Below};
 ghost use Rattle.laws.specs.Swap.{swapped};
 

@@ -3,8 +3,8 @@ ghost use mathlib.Core.Path.{_≡_};
 ghost use mathlib.Core.Bool.{true};
 ghost use lib.ListN.{length, replicate};
 ghost use Rattle.lapjv.specs.Answers.{verdictOf, Answered};
-ghost use Rattle.lapjv.specs.Invariant.{Square, Ready};
-ghost use Rattle.lapjv.specs.Lapjv.{assignment, lapjv};
+ghost use Rattle.lapjv_definition.specs.Invariant.{Square, Ready};
+ghost use Rattle.lapjv_definition.specs.Lapjv.{assignment, lapjv};
 
 mod ca;
 mod carr;
@@ -118,12 +118,14 @@ fn assign(n: usize, cost: &[f64], x: &mut [usize], y: &mut [usize]) -> Counts
     )
 }
 
-// Pairs each of n rows with one of n columns: x gets the column of each row, and y the row of each column. `cost` has n rows of n costs.
+// Pairs each of n rows with one of n columns, as lapjv.rs does: x gets the column of each row, and y the row of each column. `cost` has n rows of n costs.
+// That no other pairing costs less is not claimed. A side of 0 or above 255, or a slice that is not of the side's size, is refused, and then x and y stay
+// as they were.
 pub fn lapjv(n: usize, cost: &[f64], x: &mut [usize], y: &mut [usize]) -> Answer
     ensures { λ r. ⌜ Answered n (now (cost .entry)) (now (x .entry)) (now (y .entry)) r (now (x .exit)) (now (y .exit)) ⌝ }
 {
-    let v = verdict_of(n, cost.len(), x.len(), y.len());
-    let Verdict::Unfit(why) = v else {
+    let verdict = verdict_of(n, cost.len(), x.len(), y.len());
+    let Verdict::Unfit(why) = verdict else {
         let c = assign(n, cost, x, y);
         return Answer::Assigned(c);
     };

@@ -2,13 +2,13 @@
 ghost use mathlib.Core.Path.{_≡_};
 ghost use Prim.Native.Nat.{_-_, _<_, _≤_};
 ghost use lib.ListN.{length};
-ghost use Rattle.lapjv.specs.Invariant.{Square, Searching};
-ghost use Rattle.lapjv.specs.Path.{firstD, lastStep, lastFree, raiseFrom, searchAt, searchStep, searchFrom, pathed, findPathDense};
-ghost use Rattle.lapjv.specs.Scan.{scanning};
+ghost use Rattle.lapjv_definition.specs.Invariant.{Square, Searching};
+ghost use Rattle.lapjv_definition.specs.Path.{firstD, lastStep, lastFree, raiseFrom, searchAt, searchStep, searchFrom, pathed, findPathDense};
+ghost use Rattle.lapjv_definition.specs.Scan.{scanning};
 ghost use Rattle.laws.specs.Below.{Below};
 ghost use Rattle.laws.specs.Tab.{tab};
 ghost use Rattle.laws.specs.Total.{total};
-ghost use Rattle.lapjv.specs.Invariant as Invariant;
+ghost use Rattle.lapjv_definition.specs.Invariant as Invariant;
 use crate::cost::at;
 use crate::entry::is_free;
 use crate::find::find_dense;
@@ -80,7 +80,7 @@ struct Passing {
     scans: usize,
 }
 
-// Lines 257 to 271: one pass. All columns before lo are scanned, so the Rust's test `lo == hi` holds at each.
+// Lines 257 to 271: one pass. `scan_dense` ends with lo == hi unless it returns a column, so the Rust's test `lo == hi` holds at the start of each.
 fn search_step(
     n: usize,
     cost: &[f64],

@@ -2,8 +2,8 @@
 ghost use mathlib.Core.Path.{_≡_};
 ghost use Prim.Native.Nat.{_<_, _≤_};
 ghost use lib.ListN.{length, getD};
-ghost use Rattle.lapjv.specs.Invariant.{Square, Searching};
-ghost use Rattle.lapjv.specs.Scan.{scanning, scanStep, scanRow, scansAt, scanDense};
+ghost use Rattle.lapjv_definition.specs.Invariant.{Square, Searching};
+ghost use Rattle.lapjv_definition.specs.Scan.{scanning, scanStep, scanRow, scansAt, scanDense};
 ghost use Rattle.laws.specs.Below.{Below};
 use crate::cost::at;
 use crate::entry::is_free;

@@ -1,6 +1,8 @@
 -- What a loop that carries one value gives: g applied for each index in turn. Assumes nothing.
 use mathlib.Core.Path.{_≡_, refl}
-use Prim.Native.Nat.{ℕ, zero, suc, _+_}
+use Prim.Native.Nat.{ℕ, zero, suc, _+_, _<_}
+use native.Mathlib.Nat.{le-refl}
+use native.Mathlib.Omega.{arith}
 use native.Mathlib.Numerals.{add-one}
 
 module _ {A : Type 0} (g : A → ℕ → A) (z : A) where
@@ -16,3 +18,9 @@ module _ {A : Type 0} (g : A → ℕ → A) (z : A) where
   pub fold-more : (k : ℕ) → g (fold k) k ≡ fold (k + 1)
   unfolding fold
   fold-more k = rw add-one
+
+-- steps that agree at each index
+pub fold-ext : {A : Type 0} (g h : A → ℕ → A) (z : A) (n : ℕ) → ((a : A) (i : ℕ) → i < n → g a i ≡ h a i) → fold g z n ≡ fold h z n
+unfolding fold
+fold-ext g h z zero e = refl
+fold-ext g h z (suc n) e = rw (fold-ext g h z n (λ a i b. e a i (omega arith)), e (fold h z n) n (le-refl (suc n)))

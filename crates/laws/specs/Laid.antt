@@ -27,6 +27,11 @@ module _ {X A : Type 0} (enc : X → List A) where
   unfolding laid rows
   laid-none s l = rw zero-mul
 
+  -- only what lies behind the records is kept of the list
+  pub laid-kept : (s : ℕ) (xs : List X) (l k : List A) → drop (length xs * s) l ≡ drop (length xs * s) k → laid s xs l ≡ laid s xs k
+  unfolding laid
+  laid-kept s xs l k e = ap (λ (r : List A). rows xs ++ r) e
+
   module _ (s : ℕ) (size : (x : X) → length (enc x) ≡ s) where
     pub length-rows : (xs : List X) → length (rows xs) ≡ length xs * s
     unfolding rows

@@ -1,17 +1,13 @@
 -- Records given by their index, laid over the front of a list: what a loop that stores one record a turn leaves. Assumes nothing.
 use mathlib.Core.Path.{_≡_, refl, sym, ap, _∙_}
-use mathlib.Core.List.{List, _∷_}
+use mathlib.Core.List.{List}
 use Prim.Native.Nat.{ℕ, suc, _+_, _*_, _≤_, _<_}
 use native.Mathlib.Nat.{le-refl}
 use native.Mathlib.Numerals.{add-one}
 use lib.ListN.{length, take, drop}
-use Rattle.laws.specs.Tab.{tab, length-tab, tab-at, map-tab}
+use Rattle.laws.specs.Tab.{tab, length-tab, tab-at, tab-ext, map-tab, indices}
 use Rattle.laws.specs.Splice.{splice}
-use Rattle.laws.specs.Laid.{rows, rows-map, laid, laid-none, laid-more, laid-rest, laid-at, length-laid}
-
--- 0, 1, .. n - 1
-abbrev indices : ℕ → List ℕ
-indices n = tab (λ i. i) n
+use Rattle.laws.specs.Laid.{rows, rows-map, laid, laid-none, laid-more, laid-rest, laid-at, laid-kept, length-laid}
 
 module _ {A : Type 0} (f : ℕ → List A) (s : ℕ) (l : List A) where
   -- l, with its front replaced by the records f 0 .. f (k - 1), each of s elements
@@ -41,7 +37,18 @@ module _ {A : Type 0} (f : ℕ → List A) (s : ℕ) (l : List A) where
     unfolding packed
     length-packed k h = length-laid f s size (indices k) l (rw length-tab h)
 
+-- only what lies behind the records is kept of the list
+pub packed-kept : {A : Type 0} (f : ℕ → List A) (s : ℕ) (l k : List A) (n : ℕ) → drop (n * s) l ≡ drop (n * s) k → packed f s l n ≡ packed f s k n
+unfolding packed
+packed-kept f s l k n e = laid-kept f s (indices n) l k (rw length-tab e)
+
 -- records of a list that is given by its elements
 pub packed-laid : {X A : Type 0} (enc : X → List A) (g : ℕ → X) (s : ℕ) (l : List A) (n : ℕ) → packed (λ i. enc (g i)) s l n ≡ laid enc s (tab g n) l
 unfolding packed laid
 packed-laid enc g s l n = rw (rows-map enc g (indices n), map-tab, length-tab (λ i. i) n, length-tab g n)
+
+-- records that agree at each index
+pub packed-ext : {A : Type 0} (f g : ℕ → List A) (s : ℕ) (l : List A) (n : ℕ) → ((i : ℕ) → i < n → f i ≡ g i) → packed f s l n ≡ packed g s l n
+packed-ext {A} f g s l n e =
+    let whole : List A → List A = λ (r : List A). r in
+    packed-laid whole f s l n ∙ ap (λ (rs : List (List A)). laid whole s rs l) (tab-ext f g n e) ∙ sym (packed-laid whole g s l n)

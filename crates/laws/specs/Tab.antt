@@ -6,8 +6,8 @@ use Prim.Native.Nat.{ℕ, zero, suc, _+_, _-_, _≤_, _<_, zero-le}
 use native.Mathlib.Nat.{not-suc-le-zero, le-refl, eq-or-lt-of-le, le-of-suc-le-suc}
 use native.Mathlib.Numerals.{add-one}
 use native.Mathlib.Omega.{arith}
-use lib.ListN.{length, length-set, getD, drop, set, length-append, length-drop, List·getD-append}
-use lib.Seq.{drop-length, drop-cons, set-at, getD-at, getD-append-add, getD-drop, append-snoc}
+use lib.ListN.{length, length-set, getD, drop, set, replicate, length-append, length-drop, length-replicate, getD-replicate, List·getD-append}
+use lib.Seq.{drop-length, drop-at, drop-cons, set-at, getD-at, getD-append-add, getD-drop, append-snoc, ext-getD}
 
 module _ {A : Type 0} where
   -- f 0, f 1, .. f (n - 1)
@@ -38,6 +38,14 @@ module _ {A : Type 0} where
   tab-ext f g zero e = refl
   tab-ext f g (suc n) e = rw (tab-ext f g n (λ (i : ℕ) (h : i < n). e i (omega arith)), e n (le-refl (suc n)))
 
+  -- a list that has these elements
+  pub tab-of : (f : ℕ → A) (l : List A) (n : ℕ) (d : A) → length l ≡ n → ((i : ℕ) → i < n → getD l i d ≡ f i) → l ≡ tab f n
+  tab-of f l n d e h =
+      ext-getD d l (tab f n) (e ∙ sym (length-tab f n)) (λ (i : ℕ) (q : i < length l). let r : i < n = rw e at q in h i r ∙ sym (tab-at f n i d r))
+
+  pub replicate-tab : (n : ℕ) (a : A) → replicate n a ≡ tab (λ _. a) n
+  replicate-tab n a = tab-of (λ _. a) (replicate n a) n a (length-replicate n a) (λ i h. getD-replicate n i a a h)
+
   -- ---- filled
   filled-none : (f : ℕ → A) (l : List A) → l ≡ filled f l 0
   unfolding filled tab
@@ -61,6 +69,15 @@ module _ {A : Type 0} where
       subst (λ (n : ℕ). getD (tab f k ++ drop k l) (n + (i - k)) d ≡ getD (drop k l) (i - k) d) (length-tab f k) (getD-append-add (tab f k) (drop k l) (i - k) d) in
       rw e at (g ∙ getD-drop k l (i - k) d)
 
+  pub filled-at : (f : ℕ → A) (l : List A) (k i : ℕ) (d : A) → i < k → getD (filled f l k) i d ≡ f i
+  unfolding filled
+  filled-at f l k i d h = List·getD-append (tab f k) (drop k l) d i (rw length-tab h) ∙ tab-at f k i d h
+
+  -- what is not replaced
+  pub filled-rest : (f : ℕ → A) (l : List A) (k : ℕ) → drop k (filled f l k) ≡ drop k l
+  unfolding filled
+  filled-rest f l k = drop-at (tab f k) (drop k l) k (length-tab f k)
+
   -- ---- within a list the default of `getD` does not matter
   pub getD-any : (l : List A) (i : ℕ) (d e : A) → i < length l → getD l i d ≡ getD l i e
   getD-any [] i d e h = absurd (not-suc-le-zero h)
@@ -71,6 +88,10 @@ pub map-tab : {A B : Type 0} (g : A → B) (f : ℕ → A) (n : ℕ) → map g (
 unfolding tab
 map-tab g f zero = refl
 map-tab g f (suc n) = map-append g (tab f n) (f n ∷ []) ∙ ap (λ (l : List _). l ++ (g (f n) ∷ [])) (map-tab g f n)
+
+-- 0, 1, .. n - 1
+abbrev pub indices : ℕ → List ℕ
+indices n = tab (λ i. i) n
 
 -- what a loop that fills l by f, up to n, knows when k elements are stored and the list is out
 pub record Filling {A : Type 0} (f : ℕ → A) (l : List A) (n k : ℕ) (out : List A) : Type 0 where
@@ -87,6 +108,10 @@ module _ {A : Type 0} (f : ℕ → A) (l : List A) (n : ℕ) where
   fill-on {k} {out} {v} w h r e =
       let z : set out k v ≡ filled f l (k + 1) = ap (λ (a : List A). set a k v) (w .cells) ∙ ap (set (filled f l k) k) e ∙ filled-more f l k (omega arith) in
       record { upto = omega arith; cells = z; same = length-set out k v ∙ w .same }
+
+  -- an element that is not stored yet is as it was
+  pub fill-ahead : {k : ℕ} {out : List A} → Filling f l n k out → (d : A) → getD out k d ≡ getD l k d
+  fill-ahead {k} {out} w d = ap (λ (a : List A). getD a k d) (w .cells) ∙ filled-past f l k k d (le-refl k)
 
   pub fill-end : {k : ℕ} {out : List A} → Filling f l n k out → n ≤ k → out ≡ filled f l n
   fill-end {k} {out} w h = let e : k ≡ n = omega arith in rw e at (w .cells)

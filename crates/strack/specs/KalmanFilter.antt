@@ -11,7 +11,7 @@ use Rattle.strack.specs.declared.kalman_filter.PairCorrection.{PairCorre
 use Rattle.strack.specs.declared.kalman_filter.PairCorrection.the-variants as pair
 use Rattle.strack.specs.declared.kalman_filter.FilterCorrection.{FilterCorrection}
 use Rattle.strack.specs.declared.kalman_filter.FilterCorrection.the-variants as filter
-use Rattle.strack.specs.Single.{_⊕_, _⊖_, _⊗_, _⊘_, zero, one, ten, tenThousand, hundredth}
+use Rattle.floats.specs.Single.{_⊕_, _⊖_, _⊗_, _⊘_, zero, one, ten, tenThousand, hundredth}
 
 -- ---- a pair
 

@@ -5,7 +5,7 @@ use Rattle.floats.specs.Pick.{larger, smaller}
 use Rattle.strack.specs.declared.rect.Rect.{Rect}
 use Rattle.strack.specs.declared.rect.Xyah.{Xyah}
 use Rattle.strack.specs.declared.rect.Xyxy.{Xyxy}
-use Rattle.strack.specs.Single.{_⊕_, _⊖_, _⊗_, _⊘_, zero, one, two}
+use Rattle.floats.specs.Single.{_⊕_, _⊖_, _⊗_, _⊘_, zero, one, two}
 
 abbrev pub new : Float → Float → Float → Float → Rect
 new x y width height = record { left = x; top = y; width = width; height = height }

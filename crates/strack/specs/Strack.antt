@@ -14,7 +14,7 @@ use Rattle.strack.specs.declared.strack.TrackCorrection.{TrackCorrection
 use Rattle.strack.specs.declared.strack.TrackCorrection.the-variants.{Corrected, Refused}
 use Rattle.strack.specs.KalmanFilter as kalman
 use Rattle.strack.specs.Rect.{widthOf}
-use Rattle.strack.specs.Single.{_⊕_, _⊖_, _⊘_, two, millionth}
+use Rattle.floats.specs.Single.{_⊕_, _⊖_, _⊘_, two, millionth}
 
 abbrev pub convertBboxToZ : Xyxy → DetectBox
 convertBboxToZ bbox =

@@ -148,7 +148,7 @@ impl Rect {
     }
 }
 
-// The width of a box of height h and aspect r: none where the aspect is not above zero.
+// The width of a box of height h and aspect r: none where the aspect is zero or below.
 pub fn width_of(h: f32, r: f32) -> f32
     ensures { λ w. ⌜ w ≡ widthOf h r ⌝ }
 {

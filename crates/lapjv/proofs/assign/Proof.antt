@@ -2,7 +2,6 @@
 use mathlib.Core.Path.{sym}
 use mathlib.Core.Bool.{true}
 use native.Mathlib.Omega.{arith}
-use borrow.Author.Needs.{needs}
 use lib.Seq.{length-take-le}
 use Rattle.laws.specs.Replicate.{take-replicate}
 use Rattle.lapjv.proofs.assign.Statement.{statement}
@@ -41,19 +40,19 @@ pub assign-spec : {M : Type 1} → statement M
 assign-spec =
     tie.close
     (tie.spec
-    (λ c. search needs)
+    (λ c. c .before .before .before .before .before .pre .square .small)
     slice-aggregate-solve
-    (λ c. search needs)
+    (λ c. c .before .before .before .before .before .before .pre .square .small)
     slice-aggregate-solve-2
-    (λ c. search needs)
+    (λ c. c .before .before .before .before .before .before .before .pre .square .small)
     slice-aggregate-solve-3
-    (λ c. search needs)
+    (λ c. c .before .before .before .before .before .before .before .before .pre .square .small)
     slice-aggregate-solve-4
-    (λ c. search needs)
+    (λ c. c .before .before .before .before .before .before .before .before .before .pre .square .small)
     slice-aggregate-solve-5
-    (λ c. search needs)
+    (λ c. c .before .before .before .before .before .before .before .before .before .before .pre .square .small)
     slice-aggregate-solve-6
     solve-requires
-    (λ c. search needs)
-    (λ c. search needs)
-    (λ c. search needs))
+    (λ c. c .before .before .before .before .before .before .before .before .before .before .solve .kept .1 .1 .0)
+    (λ c. c .before .before .before .before .before .before .before .before .before .before .solve .kept .1 .1 .1 .0)
+    (λ c. c .before .before .before .before .before .before .before .before .before .before .solve .ensures))

@@ -15,7 +15,7 @@ returns c =
     accept (sym (t .before .before .verdict-of .ensures) ∙ t .enum-told .given .1) (a .assign .ensures)
 
 returns-2 : tie.Need-returns-2
-returns-2 c = refuse (sym (c .before .before .before .verdict-of .ensures) ∙ c .before .v .given .1)
+returns-2 c = refuse (sym (c .before .before .before .verdict-of .ensures) ∙ c .before .verdict .given .1)
 
 pub lapjv-spec : {M : Type 1} → statement M
 lapjv-spec =
@@ -25,7 +25,7 @@ lapjv-spec =
     (λ c. search needs)
     (λ c. search needs)
     assign-requires
-    (λ c. search needs)
-    (λ c. search needs)
+    (λ c. c .before .before .before .before .assign .kept .1 .1 .0)
+    (λ c. c .before .before .before .before .assign .kept .1 .1 .1 .0)
     returns
     returns-2)

@@ -1,9 +1,8 @@
 -- `solve` meets its contract. The four stages hand on what Pairs proves of the definition's. Assumes nothing.
 use mathlib.Core.Path.{ap, _∙_}
 use native.Mathlib.Omega.{arith}
-use borrow.Author.Needs.{needs}
 use lib.ListN.{length, length-replicate}
-use Rattle.lapjv.proofs.Pairs.{solve-first, solve-few, solve-second, solve-few₂, solve-third, solve-few₃, solve-begun, solve-small, solve-result}
+use Rattle.lapjv_definition.proofs.Pairs.{solve-first, solve-few, solve-second, solve-few₂, solve-third, solve-few₃, solve-begun, solve-small, solve-result}
 use Rattle.lapjv.proofs.solve.Statement.{statement}
 use Rattle.lapjv.proofs.solve.Tie as tie
 
@@ -114,7 +113,7 @@ solve-spec =
     same-length-3
     same-length-4
     same-length-5
-    (λ c. search needs)
-    (λ c. search needs)
-    (λ c. search needs)
+    (λ c. c .before .before .before .before .before .before .before .before .before .before .before .before .before .before .ca-dense .kept .1 .1 .1 .1 .1 .1 .1 .0)
+    (λ c. c .before .before .before .before .before .before .before .before .before .before .before .before .before .before .ca-dense .kept .1 .1 .1 .1 .1 .1 .1 .1 .0)
+    (λ c. c .before .before .before .before .before .before .before .before .before .before .before .before .before .before .ca-dense .kept .1 .1 .1 .1 .1 .1 .1 .1 .1 .0)
     returns)

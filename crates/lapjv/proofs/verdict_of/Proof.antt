@@ -2,7 +2,7 @@
 use mathlib.Core.Path.{sym}
 use native.Mathlib.Omega.{arith}
 use Rattle.lapjv.proofs.AnswerLaws.{no-side, big-side, bad-costs, bad-rows, bad-cols, fits}
-use Rattle.lapjv.proofs.CostLaws.{square-small}
+use Rattle.lapjv_definition.proofs.CostLaws.{square-small}
 use Rattle.lapjv.proofs.verdict_of.Statement.{statement}
 use Rattle.lapjv.proofs.verdict_of.Tie as tie
 

@@ -4,8 +4,8 @@ use Prim.Native.Nat.{_-_}
 use native.Mathlib.Omega.{arith}
 use borrow.Author.Needs.{needs}
 use lib.ListN.{length-set}
-use Rattle.lapjv.specs.Ca.{augmentFrom}
-use Rattle.lapjv.proofs.AugmentLaws.{AugInv, aug-found, aug-again, aug-never, aug-start, holed-row}
+use Rattle.lapjv_definition.specs.Ca.{augmentFrom}
+use Rattle.lapjv_definition.proofs.AugmentLaws.{AugInv, aug-found, aug-again, aug-never, aug-start, holed-row}
 use Rattle.lapjv.proofs.ca.augment.Statement.{statement}
 use Rattle.lapjv.proofs.ca.augment.Tie as tie
 

@@ -3,8 +3,8 @@ use mathlib.Core.Path.{sym, _∙_}
 use Prim.Native.Nat.{_-_}
 use native.Mathlib.Omega.{arith}
 use native.Mathlib.Nat.{sub-zero}
-use Rattle.lapjv.specs.Ca.{assigned, caFrom}
-use Rattle.lapjv.proofs.CaEnds.{CaInv, ca-room, ca-few, ca-scans, ca-holed, ca-again, ca-done}
+use Rattle.lapjv_definition.specs.Ca.{assigned, caFrom}
+use Rattle.lapjv_definition.proofs.CaEnds.{CaInv, ca-room, ca-few, ca-scans, ca-holed, ca-again, ca-done}
 use Rattle.lapjv.proofs.ca.ca_dense.Statement.{statement}
 use Rattle.lapjv.proofs.ca.ca_dense.Tie as tie
 

@@ -2,8 +2,8 @@
 use mathlib.Core.Path.{sym, _∙_}
 use Prim.Native.Nat.{_-_, _*_}
 use native.Mathlib.Omega.{arith}
-use Rattle.lapjv.specs.Carr.{carrying, carrDence}
-use Rattle.lapjv.proofs.CarrLaws.{CarrInv, carr-again, carr-done, carr-start, carr-less, carr-small}
+use Rattle.lapjv_definition.specs.Carr.{carrying, carrDence}
+use Rattle.lapjv_definition.proofs.CarrLaws.{CarrInv, carr-again, carr-done, carr-start, carr-less, carr-small}
 use Rattle.lapjv.proofs.carr.carr_dence.Statement.{statement}
 use Rattle.lapjv.proofs.carr.carr_dence.Tie as tie
 

@@ -2,8 +2,8 @@
 use mathlib.Core.Path.{sym, _∙_}
 use borrow.Author.Tests.{lt-ltb, le-ltb}
 use borrow.Author.Needs.{needs}
-use Rattle.lapjv.specs.Steps.{carrPick}
-use Rattle.lapjv.proofs.EntryLaws.{free-true, free-false}
+use Rattle.lapjv_definition.specs.Steps.{carrPick}
+use Rattle.lapjv_definition.proofs.EntryLaws.{free-true, free-false}
 use Rattle.lapjv.proofs.carr.carr_pick.Statement.{statement}
 use Rattle.lapjv.proofs.carr.carr_pick.Tie as tie
 

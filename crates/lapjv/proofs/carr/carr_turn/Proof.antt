@@ -4,9 +4,9 @@ use Prim.Native.Nat.{_+_}
 use native.Mathlib.Omega.{arith}
 use native.Mathlib.Nat.{mul-le-mul-right}
 use borrow.Author.Needs.{needs}
-use Rattle.lapjv.specs.Steps.{carrTake}
-use Rattle.lapjv.proofs.CarrLaws.{turn-j1, turn-j, turn-law}
-use Rattle.lapjv.proofs.CostLaws.{square-small}
+use Rattle.lapjv_definition.specs.Steps.{carrTake}
+use Rattle.lapjv_definition.proofs.CarrLaws.{turn-j1, turn-j, turn-law}
+use Rattle.lapjv_definition.proofs.CostLaws.{square-small}
 use Rattle.lapjv.proofs.carr.carr_turn.Statement.{statement}
 use Rattle.lapjv.proofs.carr.carr_turn.Tie as tie
 

@@ -1,8 +1,8 @@
 -- `carr_two` meets its contract. The invariant: what is left of the definition's passes gives the whole; the measure is the columns left. Assumes nothing.
 use Prim.Native.Nat.{_-_}
 use borrow.Author.Needs.{needs}
-use Rattle.lapjv.specs.Carr.{twoFrom, carrTwo}
-use Rattle.lapjv.proofs.CarrLaws.{TwoInv, two-again, two-done}
+use Rattle.lapjv_definition.specs.Carr.{twoFrom, carrTwo}
+use Rattle.lapjv_definition.proofs.CarrLaws.{TwoInv, two-again, two-done}
 use Rattle.lapjv.proofs.carr.carr_two.Statement.{statement}
 use Rattle.lapjv.proofs.carr.carr_two.Tie as tie
 

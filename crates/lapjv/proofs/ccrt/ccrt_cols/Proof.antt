@@ -3,9 +3,9 @@ use mathlib.Core.Path.{refl, sym, _∙_}
 use Prim.Native.Nat.{_-_}
 use native.Mathlib.Omega.{arith}
 use borrow.Author.Needs.{needs}
-use Rattle.lapjv.specs.Ccrt.{taken, colsFrom}
-use Rattle.lapjv.proofs.CcrtLaws.{ColsInv, cols-again, cols-done}
-use Rattle.lapjv.proofs.EntryLaws.{row-is}
+use Rattle.lapjv_definition.specs.Ccrt.{taken, colsFrom}
+use Rattle.lapjv_definition.proofs.CcrtLaws.{ColsInv, cols-again, cols-done}
+use Rattle.lapjv_definition.proofs.EntryLaws.{row-is}
 use Rattle.lapjv.proofs.ccrt.ccrt_cols.Statement.{statement}
 use Rattle.lapjv.proofs.ccrt.ccrt_cols.Tie as tie
 

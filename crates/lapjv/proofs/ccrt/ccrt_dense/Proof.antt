@@ -2,8 +2,8 @@
 use mathlib.Core.Path.{ap, _∙_}
 use borrow.Author.Needs.{needs}
 use lib.ListN.{length, length-replicate}
-use Rattle.lapjv.proofs.CcrtEnds.{ccrt-below}
-use Rattle.lapjv.proofs.CcrtLaws.{ccrt-law}
+use Rattle.lapjv_definition.proofs.CcrtEnds.{ccrt-below}
+use Rattle.lapjv_definition.proofs.CcrtLaws.{ccrt-law}
 use Rattle.lapjv.proofs.ccrt.ccrt_dense.Statement.{statement}
 use Rattle.lapjv.proofs.ccrt.ccrt_dense.Tie as tie
 

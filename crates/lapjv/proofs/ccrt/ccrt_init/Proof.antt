@@ -4,7 +4,7 @@ use Prim.Native.Nat.{_-_}
 use native.Mathlib.Omega.{arith}
 use borrow.Author.Needs.{needs}
 use Rattle.laws.specs.Tab.{Filling, fill-start, fill-on, fill-whole}
-use Rattle.lapjv.specs.Cost.{large}
+use Rattle.lapjv_definition.specs.Cost.{large}
 use Rattle.lapjv.proofs.ccrt.ccrt_init.Statement.{statement}
 use Rattle.lapjv.proofs.ccrt.ccrt_init.Tie as tie
 

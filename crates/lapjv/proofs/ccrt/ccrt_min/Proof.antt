@@ -1,8 +1,8 @@
 -- `ccrt_min` meets its contract. The invariant: what is left of the definition's passes gives the whole; the measure is the columns left. Assumes nothing.
 use Prim.Native.Nat.{_-_}
 use borrow.Author.Needs.{needs}
-use Rattle.lapjv.specs.Ccrt.{minFrom}
-use Rattle.lapjv.proofs.CcrtLaws.{MinInv, min-again, min-done, min-start}
+use Rattle.lapjv_definition.specs.Ccrt.{minFrom}
+use Rattle.lapjv_definition.proofs.CcrtLaws.{MinInv, min-again, min-done, min-start}
 use Rattle.lapjv.proofs.ccrt.ccrt_min.Statement.{statement}
 use Rattle.lapjv.proofs.ccrt.ccrt_min.Tie as tie
 

@@ -1,8 +1,8 @@
 -- `ccrt_reduce` meets its contract. The invariant: what is left of the definition's rows gives the whole, and no more rows are listed than passed; the measure is the rows left. Assumes nothing.
 use Prim.Native.Nat.{_-_}
 use borrow.Author.Needs.{needs}
-use Rattle.lapjv.specs.Ccrt.{reduced, reduceFrom}
-use Rattle.lapjv.proofs.CcrtLaws.{RedInv, red-again, red-done, red-start}
+use Rattle.lapjv_definition.specs.Ccrt.{reduced, reduceFrom}
+use Rattle.lapjv_definition.proofs.CcrtLaws.{RedInv, red-again, red-done, red-start}
 use Rattle.lapjv.proofs.ccrt.ccrt_reduce.Statement.{statement}
 use Rattle.lapjv.proofs.ccrt.ccrt_reduce.Tie as tie
 

@@ -2,8 +2,8 @@
 use mathlib.Core.Path.{sym, _∙_}
 use Prim.Native.Nat.{_-_}
 use borrow.Author.Needs.{needs}
-use Rattle.lapjv.specs.Ccrt.{prices, rowFrom}
-use Rattle.lapjv.proofs.CcrtLaws.{RowInv, row-again, row-done, row-start}
+use Rattle.lapjv_definition.specs.Ccrt.{prices, rowFrom}
+use Rattle.lapjv_definition.proofs.CcrtLaws.{RowInv, row-again, row-done, row-start}
 use Rattle.lapjv.proofs.ccrt.ccrt_row.Statement.{statement}
 use Rattle.lapjv.proofs.ccrt.ccrt_row.Tie as tie
 

@@ -2,8 +2,8 @@
 use mathlib.Core.Path.{sym, _∙_}
 use Prim.Native.Nat.{_-_}
 use borrow.Author.Needs.{needs}
-use Rattle.lapjv.specs.Ccrt.{prices, rowsFrom}
-use Rattle.lapjv.proofs.CcrtLaws.{RowsInv, rows-again, rows-done, rows-start}
+use Rattle.lapjv_definition.specs.Ccrt.{prices, rowsFrom}
+use Rattle.lapjv_definition.proofs.CcrtLaws.{RowsInv, rows-again, rows-done, rows-start}
 use Rattle.lapjv.proofs.ccrt.ccrt_rows.Statement.{statement}
 use Rattle.lapjv.proofs.ccrt.ccrt_rows.Tie as tie
 

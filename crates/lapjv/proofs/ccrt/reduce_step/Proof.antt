@@ -2,7 +2,7 @@
 use mathlib.Core.Path.{sym, _∙_}
 use native.Mathlib.Omega.{arith}
 use borrow.Author.Needs.{needs}
-use Rattle.lapjv.proofs.EntryLaws.{free-false, row-is}
+use Rattle.lapjv_definition.proofs.EntryLaws.{free-false, row-is}
 use Rattle.lapjv.proofs.ccrt.reduce_step.Statement.{statement}
 use Rattle.lapjv.proofs.ccrt.reduce_step.Tie as tie
 

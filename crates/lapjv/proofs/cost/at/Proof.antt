@@ -1,7 +1,7 @@
 -- `at` meets its contract. Assumes nothing.
 use native.Mathlib.Omega.{arith}
 use borrow.Author.Needs.{needs}
-use Rattle.lapjv.proofs.CostLaws.{in-square, square-small}
+use Rattle.lapjv_definition.proofs.CostLaws.{in-square, square-small}
 use Rattle.lapjv.proofs.cost.at.Statement.{statement}
 use Rattle.lapjv.proofs.cost.at.Tie as tie
 

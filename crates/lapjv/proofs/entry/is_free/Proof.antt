@@ -1,7 +1,7 @@
 -- `is_free` meets its contract. Assumes nothing.
 use mathlib.Core.Path.{sym, ap, _∙_}
 use borrow.Author.Needs.{needs}
-use Rattle.lapjv.specs.Entry.{isFree}
+use Rattle.lapjv_definition.specs.Entry.{isFree}
 use Rattle.lapjv.proofs.entry.is_free.Statement.{statement}
 use Rattle.lapjv.proofs.entry.is_free.Tie as tie
 

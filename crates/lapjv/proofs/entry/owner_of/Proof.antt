@@ -1,6 +1,6 @@
 -- `owner_of` meets its contract. Assumes nothing.
 use mathlib.Core.Path.{sym}
-use Rattle.lapjv.proofs.EntryLaws.{owner-row, owner-free}
+use Rattle.lapjv_definition.proofs.EntryLaws.{owner-row, owner-free}
 use Rattle.lapjv.proofs.entry.owner_of.Statement.{statement}
 use Rattle.lapjv.proofs.entry.owner_of.Tie as tie
 

@@ -1,7 +1,7 @@
 -- `row_of` meets its contract. Assumes nothing.
 use mathlib.Core.Path.{sym, ap, _∙_}
 use borrow.Author.Needs.{needs}
-use Rattle.lapjv.specs.Entry.{rowOf}
+use Rattle.lapjv_definition.specs.Entry.{rowOf}
 use Rattle.lapjv.proofs.entry.row_of.Statement.{statement}
 use Rattle.lapjv.proofs.entry.row_of.Tie as tie
 

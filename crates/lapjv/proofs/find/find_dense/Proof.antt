@@ -3,8 +3,8 @@ use mathlib.Core.Path.{refl}
 use Prim.Native.Nat.{_-_}
 use native.Mathlib.Omega.{arith}
 use borrow.Author.Needs.{needs}
-use Rattle.lapjv.specs.Find.{finding, findFrom}
-use Rattle.lapjv.proofs.FindLaws.{FindInv, find-again, find-done}
+use Rattle.lapjv_definition.specs.Find.{finding, findFrom}
+use Rattle.lapjv_definition.proofs.FindLaws.{FindInv, find-again, find-done}
 use Rattle.lapjv.proofs.find.find_dense.Statement.{statement}
 use Rattle.lapjv.proofs.find.find_dense.Tie as tie
 

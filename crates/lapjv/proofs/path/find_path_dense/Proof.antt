@@ -2,7 +2,7 @@
 use mathlib.Core.Path.{_∙_}
 use native.Mathlib.Omega.{arith}
 use borrow.Author.Needs.{needs}
-use Rattle.lapjv.proofs.CaEnds.{path-begin, path-is, path-ok, path-result}
+use Rattle.lapjv_definition.proofs.CaEnds.{path-begin, path-is, path-ok, path-result}
 use Rattle.lapjv.proofs.path.find_path_dense.Statement.{statement}
 use Rattle.lapjv.proofs.path.find_path_dense.Tie as tie
 

@@ -3,8 +3,8 @@ use mathlib.Core.Path.{refl}
 use Prim.Native.Nat.{_-_}
 use native.Mathlib.Omega.{arith}
 use borrow.Author.Needs.{needs}
-use Rattle.lapjv.specs.Path.{lastFree}
-use Rattle.lapjv.proofs.PathLaws.{LastInv, last-again, last-done}
+use Rattle.lapjv_definition.specs.Path.{lastFree}
+use Rattle.lapjv_definition.proofs.PathLaws.{LastInv, last-again, last-done}
 use Rattle.lapjv.proofs.path.last_free.Statement.{statement}
 use Rattle.lapjv.proofs.path.last_free.Tie as tie
 

@@ -6,7 +6,7 @@ use borrow.Author.Needs.{needs}
 use lib.ListN.{getD}
 use lib.Ieee.{nan}
 use Rattle.laws.specs.Tab.{Filling, fill-start, fill-on, fill-whole}
-use Rattle.lapjv.specs.Cost.{at, _⊖_}
+use Rattle.lapjv_definition.specs.Cost.{at, _⊖_}
 use Rattle.lapjv.proofs.path.path_init.Statement.{statement}
 use Rattle.lapjv.proofs.path.path_init.Tie as tie
 

@@ -4,8 +4,8 @@ use Prim.Native.Nat.{_-_}
 use native.Mathlib.Omega.{arith}
 use native.Mathlib.Nat.{sub-zero}
 use borrow.Author.Needs.{needs}
-use Rattle.lapjv.specs.Path.{raiseFrom}
-use Rattle.lapjv.proofs.PathLaws.{RaiseInv, raise-again, raise-done}
+use Rattle.lapjv_definition.specs.Path.{raiseFrom}
+use Rattle.lapjv_definition.proofs.PathLaws.{RaiseInv, raise-again, raise-done}
 use Rattle.lapjv.proofs.path.raise.Statement.{statement}
 use Rattle.lapjv.proofs.path.raise.Tie as tie
 

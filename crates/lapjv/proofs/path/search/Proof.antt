@@ -1,9 +1,9 @@
 -- `search` meets its contract. The invariant: what is left of the definition's passes gives the whole. The measure falls as lo grows, and at the end since something is found. Assumes nothing.
 use mathlib.Core.Path.{refl, sym, _∙_}
 use native.Mathlib.Omega.{arith}
-use Rattle.lapjv.specs.Path.{searchAt, searchFrom}
-use Rattle.lapjv.specs.Scan.{scanning}
-use Rattle.lapjv.proofs.SearchEnds.{SearchInv, searchLeft, search-less, search-again, search-done}
+use Rattle.lapjv_definition.specs.Path.{searchAt, searchFrom}
+use Rattle.lapjv_definition.specs.Scan.{scanning}
+use Rattle.lapjv_definition.proofs.SearchEnds.{SearchInv, searchLeft, search-less, search-again, search-done}
 use Rattle.lapjv.proofs.path.search.Statement.{statement}
 use Rattle.lapjv.proofs.path.search.Tie as tie
 

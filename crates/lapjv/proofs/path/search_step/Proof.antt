@@ -2,7 +2,7 @@
 -- Assumes nothing.
 use native.Mathlib.Omega.{arith}
 use borrow.Author.Needs.{needs}
-use Rattle.lapjv.proofs.SearchEnds.{lo-in, find-done, find-high, find-top, find-held, find-same, scan-few, pass-found, pass-hit, pass-none}
+use Rattle.lapjv_definition.proofs.SearchEnds.{lo-in, find-done, find-high, find-top, find-held, find-same, scan-few, pass-found, pass-hit, pass-none}
 use Rattle.lapjv.proofs.path.search_step.Statement.{statement}
 use Rattle.lapjv.proofs.path.search_step.Tie as tie
 

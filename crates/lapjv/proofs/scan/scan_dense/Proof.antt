@@ -3,9 +3,9 @@ use mathlib.Core.Path.{refl, sym, _∙_}
 use Prim.Native.Nat.{_-_}
 use native.Mathlib.Omega.{arith}
 use borrow.Author.Needs.{needs}
-use Rattle.lapjv.specs.Scan.{scanning, scanAll}
-use Rattle.lapjv.proofs.EntryLaws.{row-is}
-use Rattle.lapjv.proofs.SearchLaws.{AllInv, all-found, all-again, all-done}
+use Rattle.lapjv_definition.specs.Scan.{scanning, scanAll}
+use Rattle.lapjv_definition.proofs.EntryLaws.{row-is}
+use Rattle.lapjv_definition.proofs.SearchLaws.{AllInv, all-found, all-again, all-done}
 use Rattle.lapjv.proofs.scan.scan_dense.Statement.{statement}
 use Rattle.lapjv.proofs.scan.scan_dense.Tie as tie
 

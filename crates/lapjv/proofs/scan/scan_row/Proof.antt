@@ -3,8 +3,8 @@ use mathlib.Core.Path.{refl}
 use Prim.Native.Nat.{_-_}
 use native.Mathlib.Omega.{arith}
 use borrow.Author.Needs.{needs}
-use Rattle.lapjv.specs.Scan.{scanning, scanFrom}
-use Rattle.lapjv.proofs.ScanLaws.{ScanInv, scan-again, scan-found, scan-done}
+use Rattle.lapjv_definition.specs.Scan.{scanning, scanFrom}
+use Rattle.lapjv_definition.proofs.ScanLaws.{ScanInv, scan-again, scan-found, scan-done}
 use Rattle.lapjv.proofs.scan.scan_row.Statement.{statement}
 use Rattle.lapjv.proofs.scan.scan_row.Tie as tie
 

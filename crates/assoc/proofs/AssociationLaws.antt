@@ -1,0 +1,207 @@
+-- What an accepted call of associate knows, and that its stages, one after the other, are the definition. Assumes nothing.
+use mathlib.Core.Path.{_≡_, refl, sym, ap, _∙_}
+use mathlib.Core.Bool.{Bool, true, false, not, cond, _&&_, _||_}
+use mathlib.Core.List.{List, [], _++_}
+use Prim.Native.Nat.{ℕ, _+_, _-_, _*_, _≤_, _<_}
+use native.Mathlib.Nat.{mul-le-mul, add-sub-cancel-left}
+use native.Mathlib.Omega.{arith}
+use lib.Dec.{ltb, eqb}
+use lib.Ieee.{Float, nan, binary32, ofBits}
+use lib.ListN.{length, getD, take, drop, length-drop, List·getD-append}
+use lib.Seq.{getD-take, take-at, drop-at, length-take-le}
+use borrow.Author.Tests.{ltb-false, eqb-true, le-ltb, eq-eqb}
+use borrow.Rule.Slice.PartMut.{putMid}
+use Rattle.laws.specs.Tests.{or-none, false-not-true}
+use Rattle.laws.specs.Tab.{tab, indices}
+use Rattle.laws.specs.Splice.{mid-splice}
+use Rattle.laws.specs.Most.{greater, greater-left, greater-right}
+use Rattle.laws.specs.Grid.{cellAt, grid, grid-at, grid-ext, grid-whole, length-grid, row-ends}
+use Rattle.floats.specs.Single.{one, zero}
+use Rattle.similarity.specs.declared.cost.AssociateParams.{AssociateParams}
+use Rattle.similarity.specs.declared.refusal.Verdict.{Verdict}
+use Rattle.similarity.specs.declared.refusal.Verdict.the-variants.{Accepted}
+use Rattle.similarity.specs.Refusal.{tooMany}
+use Rattle.similarity.specs.Sizes.{ofCorners, ofCells, ofDistances, after}
+use Rattle.similarity.specs.Overlap.{boxAt, iouBatch}
+use Rattle.similarity.specs.Mahalanobis.{mhDistSimilarity}
+use Rattle.similarity.specs.Cost.{costMatrix}
+use Rattle.similarity.specs.Laws.{passed, few-sides, same-size, cost-ext}
+use Rattle.assoc.specs.Assignment.{assignment, validated, linearAssignment}
+use Rattle.assoc.specs.Matching.{matchDetections}
+use Rattle.assoc.specs.Account.{Accounted}
+use Rattle.assoc.specs.Association.{ious, costs, associate}
+use Rattle.assoc.specs.Answers.{assignmentShort, assignmentVerdict, otherSize, associateShort, withinVerdict, associateVerdict, cleared}
+use Rattle.assoc.proofs.AnswerLaws.{roomy}
+use Rattle.assoc.proofs.AccountLaws.{no-indices, accounted}
+use Rattle.assoc.specs.declared.assignment.AssignmentCounts.{AssignmentCounts}
+use Rattle.assoc.specs.AssignmentSteps.{AssignmentReady, AssignmentDone}
+use Rattle.assoc.specs.AssociationSteps.{Cornered, AssociateReady, Likened, Halves, AssociateDone}
+
+-- ---- the verdict
+
+module _ (params : AssociateParams) (boxes tracks detections corners trackConfidence detectionConfidence pairs partners unmatchedDetections unmatchedTracks work64 work32 : ℕ) where
+  -- past the tests of its own, within_verdict leaves the rest to linear_assignment's
+  pub within-rest : tooMany boxes tracks ≡ false → otherSize params boxes tracks detections corners trackConfidence detectionConfidence ≡ false → ltb work32 (4 * (greater boxes tracks * greater boxes tracks)) ≡ false
+      → assignmentVerdict boxes tracks (boxes * tracks) (boxes * tracks) pairs partners unmatchedDetections unmatchedTracks work64
+      ≡ withinVerdict params boxes tracks detections corners trackConfidence detectionConfidence pairs partners unmatchedDetections unmatchedTracks work64 work32
+  unfolding assignmentVerdict withinVerdict
+  within-rest e f g = rw (e, f, g, eq-eqb (boxes * tracks) (boxes * tracks) refl)
+
+  -- and associate_verdict to within_verdict
+  pub associate-rest : (mahalanobis : ℕ) → tooMany boxes tracks ≡ false → (params .«has_mahalanobis» && not (eqb mahalanobis (boxes * tracks))) ≡ false
+      → withinVerdict params boxes tracks detections corners trackConfidence detectionConfidence pairs partners unmatchedDetections unmatchedTracks work64 work32
+      ≡ associateVerdict params boxes tracks detections corners mahalanobis trackConfidence detectionConfidence pairs partners unmatchedDetections unmatchedTracks work64 work32
+  unfolding withinVerdict associateVerdict
+  associate-rest mahalanobis e f = rw (e, f)
+
+  ready-of : tooMany boxes tracks ≡ false → otherSize params boxes tracks detections corners trackConfidence detectionConfidence ≡ false
+      → associateShort boxes tracks pairs partners unmatchedDetections unmatchedTracks work64 work32 ≡ false → AssociateReady boxes tracks detections corners pairs partners unmatchedDetections unmatchedTracks work64 work32
+  ready-of e f g =
+      let n : ℕ = greater boxes tracks in
+      let low = few-sides boxes tracks e in
+      let s = or-none (not (eqb detections (boxes * 4))) (not (eqb corners (tracks * 4))) (or-none (not (eqb detections (boxes * 4)) || not (eqb corners (tracks * 4))) _ f .0) in
+      let r = or-none (ltb work32 (4 * (n * n))) (assignmentShort boxes tracks pairs partners unmatchedDetections unmatchedTracks work64) g in
+      let room = roomy boxes tracks pairs partners unmatchedDetections unmatchedTracks work64 (r .1) in
+      let square : boxes * tracks ≤ n * n = mul-le-mul (greater-left boxes tracks) (greater-right boxes tracks) in
+      let floats = ltb-false work32 (4 * (n * n)) (r .0) in
+      record {
+        cornered = record { few-rows = low .0; few-cols = low .1; detections-fit = same-size detections (boxes * 4) (s .0); corners-fit = same-size corners (tracks * 4) (s .1); room = omega arith };
+        lists = room .0;
+        room-work = room .1;
+      }
+
+  pub within-ready : withinVerdict params boxes tracks detections corners trackConfidence detectionConfidence pairs partners unmatchedDetections unmatchedTracks work64 work32 ≡ Accepted
+      → AssociateReady boxes tracks detections corners pairs partners unmatchedDetections unmatchedTracks work64 work32
+  unfolding withinVerdict
+  within-ready e = let p = passed _ _ _ e in ready-of (p .few) (p .sized) (p .enough)
+
+  pub associate-ready : (mahalanobis : ℕ) → associateVerdict params boxes tracks detections corners mahalanobis trackConfidence detectionConfidence pairs partners unmatchedDetections unmatchedTracks work64 work32 ≡ Accepted
+      → AssociateReady boxes tracks detections corners pairs partners unmatchedDetections unmatchedTracks work64 work32 × (params .«has_mahalanobis» ≡ true → mahalanobis ≡ boxes * tracks)
+  unfolding associateVerdict
+  associate-ready mahalanobis e =
+      let p = passed _ _ _ e in
+      let s = or-none (params .«has_mahalanobis» && not (eqb mahalanobis (boxes * tracks))) (otherSize params boxes tracks detections corners trackConfidence detectionConfidence) (p .sized) in
+      (ready-of (p .few) (s .1) (p .enough), λ h. same-size mahalanobis (boxes * tracks) (ap (λ (b : Bool). b && not (eqb mahalanobis (boxes * tracks))) (sym h) ∙ s .0))
+
+-- ---- the matrices: the crate below accepts what is lent
+
+module _ {n m : ℕ} (few-rows : n ≤ 255) (few-cols : m ≤ 255) where
+  pub corners-accepted : {detections corners out : ℕ} → detections ≡ n * 4 → corners ≡ m * 4 → n * m ≤ out → ofCorners n m detections corners out ≡ Accepted
+  corners-accepted {detections} {corners} {out} e f r = rw (le-ltb 255 n few-rows, le-ltb 255 m few-cols, eq-eqb detections (n * 4) e, eq-eqb corners (m * 4) f, le-ltb out (n * m) r)
+
+  pub cells-accepted : {cells : ℕ} → n * m ≤ cells → ofCells n m cells ≡ Accepted
+  cells-accepted {cells} r = rw (le-ltb 255 n few-rows, le-ltb 255 m few-cols, le-ltb cells (n * m) r)
+
+  pub distances-accepted : {distance out : ℕ} → distance ≡ n * m → n * m ≤ out → ofDistances n m distance out ≡ Accepted
+  distances-accepted {distance} {out} e r = rw (le-ltb 255 n few-rows, le-ltb 255 m few-cols, eq-eqb distance (n * m) e, le-ltb out (n * m) r)
+
+-- what an accepted call leaves in a part that it fills
+stored : (f : ℕ → ℕ → Float) (n m : ℕ) (part : List Float) {r : Verdict} {vs : List Float} → r ≡ Accepted → vs ≡ after r f n m part → vs ≡ grid f n m part
+stored f n m part {r} {vs} e h = rw e at h
+
+pub likened : (has : Bool) (n m : ℕ) (distance l : List Float) {r : Verdict} {vs : List Float} → n * m ≤ length l → r ≡ Accepted → vs ≡ after r (mhDistSimilarity distance one n m) n m (take (n * m) l)
+    → Likened has n m distance (vs ++ drop (n * m) l)
+likened has n m distance l {r} {vs} h e f =
+    let part : List Float = take (n * m) l in
+    let g : vs ≡ grid (mhDistSimilarity distance one n m) n m part = stored (mhDistSimilarity distance one n m) n m part e f in
+    let k : length part ≡ n * m = length-take-le (n * m) l h in
+    let long : length vs ≡ n * m = ap length g ∙ length-grid (mhDistSimilarity distance one n m) n m part (omega arith) ∙ k in
+    record {
+      similar = λ _ i j hi hj. List·getD-append vs (drop (n * m) l) nan (i * m + j) (let b = row-ends n m i hi in omega arith)
+          ∙ ap (λ (v : List Float). cellAt nan m v i j) g ∙ grid-at (mhDistSimilarity distance one n m) n m part nan i j hi hj;
+    }
+
+pub unlikened : {has : Bool} {n m : ℕ} {distance l : List Float} → has ≡ false → Likened has n m distance l
+unlikened e = record { similar = λ h. absurd (false-not-true (sym e ∙ h)) }
+
+-- the costs of a similarity that agrees with another where it is looked at
+module _ (params : AssociateParams) (n m : ℕ) (detections corners trackConfidence detectionConfidence : List Float) where
+  costs-ext : (f g : ℕ → ℕ → Float) → (params .«has_mahalanobis» ≡ true → (i j : ℕ) → i < n → j < m → f i j ≡ g i j)
+      → costs params n m detections corners trackConfidence detectionConfidence f ≡ costs params n m detections corners trackConfidence detectionConfidence g
+  costs-ext f g h =
+      grid-ext (costMatrix params detections corners trackConfidence detectionConfidence f) n m [] (costMatrix params detections corners trackConfidence detectionConfidence g)
+      (λ i j hi hj. cost-ext params (boxAt detections i) (boxAt corners j) (getD detectionConfidence i zero) (getD trackConfidence j zero) (f i j) (g i j) (λ e. h e i j hi hj))
+
+  pub halves : (l : List Float) {r₁ r₂ : Verdict} {vs₁ vs₂ : List Float} → Cornered n m (length detections) (length corners) (length l)
+      → r₁ ≡ ofCorners n m (length detections) (length corners) (length (take (n * m) l))
+      → vs₁ ≡ after r₁ (costMatrix params detections corners trackConfidence detectionConfidence (cellAt nan m (take (n * m) l))) n m (take (n * m) l)
+      → r₂ ≡ ofCorners n m (length detections) (length corners) (length (take (n * m + n * m - n * m) (drop (n * m) (vs₁ ++ drop (n * m) l))))
+      → vs₂ ≡ after r₂ (iouBatch detections corners) n m (take (n * m + n * m - n * m) (drop (n * m) (vs₁ ++ drop (n * m) l)))
+      → Halves (n * m) (costs params n m detections corners trackConfidence detectionConfidence (cellAt nan m l)) (ious n m detections corners) (putMid (n * m) (n * m + n * m - n * m) (vs₁ ++ drop (n * m) l) vs₂)
+  halves l {r₁} {r₂} {vs₁} {vs₂} w e₁ f₁ e₂ f₂ =
+      let cost : ℕ → ℕ → Float = costMatrix params detections corners trackConfidence detectionConfidence (cellAt nan m (take (n * m) l)) in
+      let room = w .room in
+      let part : List Float = take (n * m) l in
+      let long : length part ≡ n * m = length-take-le (n * m) l (omega arith) in
+      let g₁ : vs₁ ≡ grid cost n m part = stored cost n m part (e₁ ∙ corners-accepted (w .few-rows) (w .few-cols) (w .detections-fit) (w .corners-fit) (omega arith)) f₁ in
+      let n₁ : length vs₁ ≡ n * m = ap length g₁ ∙ length-grid cost n m part (omega arith) ∙ long in
+      let behind : List Float = take (n * m + n * m - n * m) (drop (n * m) (vs₁ ++ drop (n * m) l)) in
+      let long₂ : length behind ≡ n * m =
+      rw (add-sub-cancel-left (n * m) (n * m), drop-at vs₁ (drop (n * m) l) (n * m) n₁) (length-take-le (n * m) (drop (n * m) l) (rw length-drop (omega arith))) in
+      let g₂ : vs₂ ≡ grid (iouBatch detections corners) n m behind =
+      stored (iouBatch detections corners) n m behind (e₂ ∙ corners-accepted (w .few-rows) (w .few-cols) (w .detections-fit) (w .corners-fit) (omega arith)) f₂ in
+      let n₂ : length vs₂ ≡ n * m = ap length g₂ ∙ length-grid (iouBatch detections corners) n m behind (omega arith) ∙ long₂ in
+      let costs-are : vs₁ ≡ costs params n m detections corners trackConfidence detectionConfidence (cellAt nan m l) =
+      g₁ ∙ grid-whole cost n m part long
+      ∙ costs-ext (cellAt nan m part) (cellAt nan m l) (λ _ i j hi hj. getD-take (n * m) l (i * m + j) nan (let b = row-ends n m i hi in omega arith)) in
+      let ious-are : vs₂ ≡ ious n m detections corners = g₂ ∙ grid-whole (iouBatch detections corners) n m behind long₂ in
+      let rest : List Float = drop (n * m + length vs₂) (vs₁ ++ drop (n * m) l) in
+      let whole : putMid (n * m) (n * m + n * m - n * m) (vs₁ ++ drop (n * m) l) vs₂ ≡ vs₁ ++ (vs₂ ++ rest) =
+      mid-splice (vs₁ ++ drop (n * m) l) (n * m) (n * m) vs₂ n₂ ∙ ap (λ (t : List Float). t ++ (vs₂ ++ rest)) (take-at vs₁ (drop (n * m) l) (n * m) n₁) in
+      rw whole (record {
+        costs-are = take-at vs₁ (vs₂ ++ rest) (n * m) n₁ ∙ costs-are;
+        ious-are = ap (take (n * m)) (drop-at vs₁ (vs₂ ++ rest) (n * m) n₁) ∙ take-at vs₂ rest (n * m) n₂ ∙ ious-are;
+      })
+
+-- ---- the assignment by the two matrices
+
+pub half-ready : {n m pairs partners boxes tracks work64 : ℕ} (l : List Float) → AssociateReady n m (n * 4) (m * 4) pairs partners boxes tracks work64 (length l)
+    → AssignmentReady n m (length (take (n * m + n * m - n * m) (drop (n * m) l))) (length (take (n * m) l)) pairs partners boxes tracks work64
+half-ready {n} {m} l r =
+    let room = r .cornered .room in
+    let behind : length (take (n * m + n * m - n * m) (drop (n * m) l)) ≡ n * m = rw (add-sub-cancel-left (n * m) (n * m)) (length-take-le (n * m) (drop (n * m) l) (rw length-drop (omega arith))) in
+    record { few-rows = r .cornered .few-rows; few-cols = r .cornered .few-cols; long-iou = behind; long-cost = length-take-le (n * m) l (omega arith); room = r .lists; room-work = r .room-work }
+
+pub half-done : (n m : ℕ) (t : Float) (l : List Float) {pb pt dets trks pb′ pt′ dets′ trks′ : List ℕ} {work work′ : List Float} {r : AssignmentCounts}
+    → AssignmentDone (linearAssignment (take (n * m + n * m - n * m) (drop (n * m) l)) (take (n * m) l) n m t) pb pt dets trks work r pb′ pt′ dets′ trks′ work′
+    → AssignmentDone (linearAssignment (take (n * m) (drop (n * m) l)) (take (n * m) l) n m t) pb pt dets trks work r pb′ pt′ dets′ trks′ work′
+half-done n m t l d = rw (add-sub-cancel-left (n * m) (n * m)) at d
+
+pub paired-up : (n m : ℕ) (t : Float) {k : ℕ} {cost iou l l₀ : List Float} {pb pt dets trks pb′ pt′ dets′ trks′ : List ℕ} {work work′ l′ : List Float} {r : AssignmentCounts} → Halves k cost iou l
+    → AssignmentDone (linearAssignment (take k (drop k l)) (take k l) n m t) pb pt dets trks work r pb′ pt′ dets′ trks′ work′ → l′ ≡ cleared l → length l ≡ length l₀
+    → AssociateDone (linearAssignment iou cost n m t) pb pt dets trks work l₀ r pb′ pt′ dets′ trks′ work′ l′
+paired-up n m t h d e same = record { lists = rw (h .ious-are, h .costs-are) at d; floats = e ∙ ap (tab (λ i. ofBits binary32 0)) same }
+
+-- ---- the definition
+
+-- linear_assignment answers by itself what associate's early returns do
+early : (iou cost : List Float) (n m : ℕ) (t : Float)
+    → linearAssignment iou cost n m t ≡ cond (eqb m 0) (assignment [] (indices n) [] 0 0) (cond (eqb n 0) (assignment [] [] (indices m) 0 0) (linearAssignment iou cost n m t))
+unfolding linearAssignment
+early iou cost n m t = by-cases (eqb n 0) refl (eqb m 0) refl
+  where
+    by-cases : (a : Bool) → eqb n 0 ≡ a → (b : Bool) → eqb m 0 ≡ b
+        → cond a (assignment [] [] (indices m) 0 0) (cond b (assignment [] (indices n) [] 0 0) (validated iou n m t (matchDetections cost n m t)))
+        ≡ cond b (assignment [] (indices n) [] 0 0) (cond a (assignment [] [] (indices m) 0 0) (cond a (assignment [] [] (indices m) 0 0) (cond b (assignment [] (indices n) [] 0 0) (validated iou n m t (matchDetections cost n m t)))))
+    by-cases true e true f = rw (no-indices (eqb-true n 0 e), no-indices (eqb-true m 0 f))
+    by-cases true e false f = refl
+    by-cases false e true f = refl
+    by-cases false e false f = refl
+
+module _ (params : AssociateParams) (n m : ℕ) (detections corners distance trackConfidence detectionConfidence : List Float) where
+  as-linear : linearAssignment (ious n m detections corners) (costs params n m detections corners trackConfidence detectionConfidence (mhDistSimilarity distance one n m)) n m (params .«iou_threshold»)
+      ≡ associate params n m detections corners distance trackConfidence detectionConfidence
+  unfolding associate
+  as-linear = early (ious n m detections corners) (costs params n m detections corners trackConfidence detectionConfidence (mhDistSimilarity distance one n m)) n m (params .«iou_threshold»)
+
+  pub associate-is : (cells : List Float) → Likened (params .«has_mahalanobis») n m distance cells
+      → linearAssignment (ious n m detections corners) (costs params n m detections corners trackConfidence detectionConfidence (cellAt nan m cells)) n m (params .«iou_threshold»)
+      ≡ associate params n m detections corners distance trackConfidence detectionConfidence
+  associate-is cells w =
+      ap (λ (cost : List Float). linearAssignment (ious n m detections corners) cost n m (params .«iou_threshold»))
+      (costs-ext params n m detections corners trackConfidence detectionConfidence (cellAt nan m cells) (mhDistSimilarity distance one n m) (w .similar))
+      ∙ as-linear
+
+  pub associate-accounted : n ≤ 255 → m ≤ 255 → Accounted (ious n m detections corners) n m (params .«iou_threshold») (associate params n m detections corners distance trackConfidence detectionConfidence)
+  associate-accounted few-rows few-cols =
+      rw as-linear at (accounted (ious n m detections corners) (costs params n m detections corners trackConfidence detectionConfidence (mhDistSimilarity distance one n m)) n m (params .«iou_threshold») few-rows few-cols)

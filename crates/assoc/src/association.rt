@@ -1,0 +1,407 @@
+// associate of assoc.rs: the costs of boxes and tracks in lent memory, and the assignment by them.
+ghost use mathlib.Core.Path.{_≡_};
+ghost use mathlib.Core.Bool.{true};
+ghost use Prim.Native.Nat.{_*_, _≤_};
+ghost use lib.ListN.{length, take, drop};
+ghost use lib.Ieee.{nan};
+ghost use Rattle.laws.specs.Grid.{cellAt};
+ghost use Rattle.assoc.specs.Assignment.{linearAssignment};
+ghost use Rattle.assoc.specs.Association.{ious, costs};
+ghost use Rattle.assoc.specs.Association as Association;
+ghost use Rattle.assoc.specs.Answers.{otherSize, withinVerdict, associateVerdict, cleared, AssociateEnds};
+ghost use Rattle.assoc.specs.AssignmentSteps.{AssignmentDone};
+ghost use Rattle.assoc.specs.AssociationSteps.{Cornered, Likened, Halves, AssociateReady, AssociateDone};
+use crate::assignment::AssignmentAnswer;
+use crate::assignment::AssignmentCounts;
+use crate::assignment::assign_with;
+use crate::assignment::assignment_verdict;
+use crate::matching::larger;
+use similarity::AssociateParams;
+use similarity::Refusal;
+use similarity::Verdict;
+use similarity::associate_cost;
+use similarity::iou_batch;
+use similarity::mh_dist_similarity;
+use similarity::mh_dist_similarity_over;
+
+// ---- refusals
+
+fn other_size(
+    params: AssociateParams,
+    boxes: usize,
+    tracks: usize,
+    detections: usize,
+    corners: usize,
+    track_confidence: usize,
+    detection_confidence: usize,
+) -> bool
+    requires { ⌜ (boxes ≤ 255) × (tracks ≤ 255) ⌝ }
+    ensures { λ r. ⌜ r ≡ otherSize params boxes tracks detections corners «track_confidence» «detection_confidence» ⌝ }
+{
+    let of_corners = (detections != boxes * 4) | (corners != tracks * 4);
+    let of_confidences = (track_confidence != tracks) | (detection_confidence != boxes);
+    of_corners | (params.has_confidence & of_confidences)
+}
+
+fn within_verdict(
+    params: AssociateParams,
+    boxes: usize,
+    tracks: usize,
+    detections: usize,
+    corners: usize,
+    track_confidence: usize,
+    detection_confidence: usize,
+    pairs: usize,
+    partners: usize,
+    unmatched_detections: usize,
+    unmatched_tracks: usize,
+    work64: usize,
+    work32: usize,
+) -> Verdict
+    ensures { λ r. ⌜ r ≡ withinVerdict params boxes tracks detections corners «track_confidence» «detection_confidence» pairs partners «unmatched_detections» «unmatched_tracks» work64 work32 ⌝ }
+{
+    if (255 < boxes) | (255 < tracks) {
+        return Verdict::Refused(Refusal::TooMany);
+    }
+    if other_size(
+        params,
+        boxes,
+        tracks,
+        detections,
+        corners,
+        track_confidence,
+        detection_confidence,
+    ) {
+        return Verdict::Refused(Refusal::OtherSize);
+    }
+    let n = larger(boxes, tracks);
+    if work32 < 4 * (n * n) {
+        return Verdict::Refused(Refusal::TooShort);
+    }
+    let cells = boxes * tracks;
+    assignment_verdict(
+        boxes,
+        tracks,
+        cells,
+        cells,
+        pairs,
+        partners,
+        unmatched_detections,
+        unmatched_tracks,
+        work64,
+    )
+}
+
+fn associate_verdict(
+    params: AssociateParams,
+    boxes: usize,
+    tracks: usize,
+    detections: usize,
+    corners: usize,
+    mahalanobis: usize,
+    track_confidence: usize,
+    detection_confidence: usize,
+    pairs: usize,
+    partners: usize,
+    unmatched_detections: usize,
+    unmatched_tracks: usize,
+    work64: usize,
+    work32: usize,
+) -> Verdict
+    ensures { λ r. ⌜ r ≡ associateVerdict params boxes tracks detections corners mahalanobis «track_confidence» «detection_confidence» pairs partners «unmatched_detections» «unmatched_tracks» work64 work32 ⌝ }
+{
+    if (255 < boxes) | (255 < tracks) {
+        return Verdict::Refused(Refusal::TooMany);
+    }
+    if params.has_mahalanobis & (mahalanobis != boxes * tracks) {
+        return Verdict::Refused(Refusal::OtherSize);
+    }
+    within_verdict(
+        params,
+        boxes,
+        tracks,
+        detections,
+        corners,
+        track_confidence,
+        detection_confidence,
+        pairs,
+        partners,
+        unmatched_detections,
+        unmatched_tracks,
+        work64,
+        work32,
+    )
+}
+
+// ---- the matrices
+
+// The similarities of the distances, in the front of `cells`.
+fn liken(has: bool, boxes: usize, tracks: usize, mahalanobis: &[f32], cells: &mut [f32])
+    requires sides { ⌜ (boxes ≤ 255) × (tracks ≤ 255) × (boxes * tracks ≤ length (now cells)) ⌝ }
+    requires distances { ⌜ (has ≡ true → length (now mahalanobis) ≡ boxes * tracks) ⌝ }
+    ensures { λ _. ⌜ Likened has boxes tracks (now (mahalanobis .entry)) (now (cells .exit)) ⌝ }
+{
+    if has {
+        let end = boxes * tracks;
+        mh_dist_similarity(boxes, tracks, mahalanobis, 1.0, &mut cells[..end]);
+        return;
+    }
+}
+
+// The same over distances that lie there.
+fn liken_within(has: bool, boxes: usize, tracks: usize, cells: &mut [f32])
+    requires { ⌜ (boxes ≤ 255) × (tracks ≤ 255) × (boxes * tracks ≤ length (now cells)) ⌝ }
+    ensures { λ _. ⌜ Likened has boxes tracks (take (boxes * tracks) (now (cells .entry))) (now (cells .exit)) ⌝ }
+{
+    if has {
+        let end = boxes * tracks;
+        mh_dist_similarity_over(boxes, tracks, 1.0, &mut cells[..end]);
+        return;
+    }
+}
+
+// The costs over the similarities in the front of `cells`, and the IoU matrix behind them.
+fn matrices(
+    params: AssociateParams,
+    boxes: usize,
+    tracks: usize,
+    detections: &[f32],
+    corners: &[f32],
+    track_confidence: &[f32],
+    detection_confidence: &[f32],
+    cells: &mut [f32],
+)
+    requires { ⌜ Cornered boxes tracks (length (now detections)) (length (now corners)) (length (now cells)) ⌝ }
+    ensures { λ _. ⌜ Halves (boxes * tracks) (costs params boxes tracks (now (detections .entry)) (now (corners .entry)) (now («track_confidence» .entry)) (now («detection_confidence» .entry)) (cellAt nan tracks (now (cells .entry))))
+        (ious boxes tracks (now (detections .entry)) (now (corners .entry))) (now (cells .exit)) ⌝ }
+{
+    let half = boxes * tracks;
+    let end = half + half;
+    associate_cost(
+        params,
+        boxes,
+        tracks,
+        detections,
+        corners,
+        track_confidence,
+        detection_confidence,
+        &mut cells[..half],
+    );
+    iou_batch(boxes, tracks, detections, corners, &mut cells[half..end]);
+}
+
+// ---- the assignment
+
+// By the costs in the front of `cells` and the IoU matrix behind them.
+fn assign(
+    cells: &[f32],
+    boxes: usize,
+    tracks: usize,
+    threshold: f32,
+    pair_boxes: &mut [usize],
+    pair_tracks: &mut [usize],
+    detections: &mut [usize],
+    left: &mut [usize],
+    work64: &mut [f64],
+) -> AssignmentCounts
+    requires { ⌜ AssociateReady boxes tracks (boxes * 4) (tracks * 4) (length (now «pair_boxes»)) (length (now «pair_tracks»)) (length (now detections)) (length (now left)) (length (now work64)) (length (now cells)) ⌝ }
+    ensures { λ r. ⌜ AssignmentDone (linearAssignment (take (boxes * tracks) (drop (boxes * tracks) (now (cells .entry)))) (take (boxes * tracks) (now (cells .entry))) boxes tracks threshold)
+        (now («pair_boxes» .entry)) (now («pair_tracks» .entry)) (now (detections .entry)) (now (left .entry)) (now (work64 .entry))
+        r (now («pair_boxes» .exit)) (now («pair_tracks» .exit)) (now (detections .exit)) (now (left .exit)) (now (work64 .exit)) ⌝ }
+{
+    let half = boxes * tracks;
+    let end = half + half;
+    let mut partner = [0u8; 255];
+    assign_with(
+        &cells[half..end],
+        &cells[..half],
+        boxes,
+        tracks,
+        threshold,
+        pair_boxes,
+        pair_tracks,
+        detections,
+        left,
+        work64,
+        &mut partner[..boxes],
+    )
+}
+
+fn clear_floats(work: &mut [f32])
+    ensures { λ _. ⌜ now (work .exit) ≡ cleared (now (work .entry)) ⌝ }
+{
+    let mut i = 0;
+    while i < work.len() {
+        work[i] = 0.0;
+        i += 1;
+    }
+}
+
+// With the similarities of the distances in the front of work32.
+fn pair_up(
+    params: AssociateParams,
+    boxes: usize,
+    tracks: usize,
+    detections: &[f32],
+    corners: &[f32],
+    track_confidence: &[f32],
+    detection_confidence: &[f32],
+    pair_boxes: &mut [usize],
+    pair_tracks: &mut [usize],
+    unmatched_detections: &mut [usize],
+    unmatched_tracks: &mut [usize],
+    work64: &mut [f64],
+    work32: &mut [f32],
+) -> AssignmentCounts
+    requires { ⌜ AssociateReady boxes tracks (length (now detections)) (length (now corners)) (length (now «pair_boxes»)) (length (now «pair_tracks»)) (length (now «unmatched_detections»)) (length (now «unmatched_tracks»)) (length (now work64)) (length (now work32)) ⌝ }
+    ensures { λ r. ⌜ AssociateDone (linearAssignment (ious boxes tracks (now (detections .entry)) (now (corners .entry)))
+        (costs params boxes tracks (now (detections .entry)) (now (corners .entry)) (now («track_confidence» .entry)) (now («detection_confidence» .entry)) (cellAt nan tracks (now (work32 .entry)))) boxes tracks (params .«iou_threshold»))
+        (now («pair_boxes» .entry)) (now («pair_tracks» .entry)) (now («unmatched_detections» .entry)) (now («unmatched_tracks» .entry)) (now (work64 .entry)) (now (work32 .entry))
+        r (now («pair_boxes» .exit)) (now («pair_tracks» .exit)) (now («unmatched_detections» .exit)) (now («unmatched_tracks» .exit)) (now (work64 .exit)) (now (work32 .exit)) ⌝ }
+{
+    matrices(
+        params,
+        boxes,
+        tracks,
+        detections,
+        corners,
+        track_confidence,
+        detection_confidence,
+        work32,
+    );
+    let counts = assign(
+        work32,
+        boxes,
+        tracks,
+        params.iou_threshold,
+        pair_boxes,
+        pair_tracks,
+        unmatched_detections,
+        unmatched_tracks,
+        work64,
+    );
+    clear_floats(work32);
+    counts
+}
+
+// The assignment by the costs of overlap, and of confidences, distances and shapes where there are any.
+pub fn associate(
+    params: AssociateParams,
+    boxes: usize,
+    tracks: usize,
+    detections: &[f32],
+    corners: &[f32],
+    mahalanobis: &[f32],
+    track_confidence: &[f32],
+    detection_confidence: &[f32],
+    pair_boxes: &mut [usize],
+    pair_tracks: &mut [usize],
+    unmatched_detections: &mut [usize],
+    unmatched_tracks: &mut [usize],
+    work64: &mut [f64],
+    work32: &mut [f32],
+) -> AssignmentAnswer
+    ensures { λ r. ⌜ AssociateEnds (associateVerdict params boxes tracks (length (now (detections .entry))) (length (now (corners .entry))) (length (now (mahalanobis .entry))) (length (now («track_confidence» .entry))) (length (now («detection_confidence» .entry)))
+        (length (now («pair_boxes» .entry))) (length (now («pair_tracks» .entry))) (length (now («unmatched_detections» .entry))) (length (now («unmatched_tracks» .entry))) (length (now (work64 .entry))) (length (now (work32 .entry))))
+        boxes tracks (ious boxes tracks (now (detections .entry)) (now (corners .entry))) (params .«iou_threshold»)
+        (Association.associate params boxes tracks (now (detections .entry)) (now (corners .entry)) (now (mahalanobis .entry)) (now («track_confidence» .entry)) (now («detection_confidence» .entry)))
+        (now («pair_boxes» .entry)) (now («pair_tracks» .entry)) (now («unmatched_detections» .entry)) (now («unmatched_tracks» .entry)) (now (work64 .entry)) (now (work32 .entry))
+        r (now («pair_boxes» .exit)) (now («pair_tracks» .exit)) (now («unmatched_detections» .exit)) (now («unmatched_tracks» .exit)) (now (work64 .exit)) (now (work32 .exit)) ⌝ }
+{
+    let verdict = associate_verdict(
+        params,
+        boxes,
+        tracks,
+        detections.len(),
+        corners.len(),
+        mahalanobis.len(),
+        track_confidence.len(),
+        detection_confidence.len(),
+        pair_boxes.len(),
+        pair_tracks.len(),
+        unmatched_detections.len(),
+        unmatched_tracks.len(),
+        work64.len(),
+        work32.len(),
+    );
+    if let Verdict::Refused(why) = verdict {
+        return AssignmentAnswer::Refused(why);
+    }
+    liken(params.has_mahalanobis, boxes, tracks, mahalanobis, work32);
+    let counts = pair_up(
+        params,
+        boxes,
+        tracks,
+        detections,
+        corners,
+        track_confidence,
+        detection_confidence,
+        pair_boxes,
+        pair_tracks,
+        unmatched_detections,
+        unmatched_tracks,
+        work64,
+        work32,
+    );
+    AssignmentAnswer::Assigned(counts)
+}
+
+// The same with the distances in the front of work32: for a caller that has computed them there.
+pub fn associate_within(
+    params: AssociateParams,
+    boxes: usize,
+    tracks: usize,
+    detections: &[f32],
+    corners: &[f32],
+    track_confidence: &[f32],
+    detection_confidence: &[f32],
+    pair_boxes: &mut [usize],
+    pair_tracks: &mut [usize],
+    unmatched_detections: &mut [usize],
+    unmatched_tracks: &mut [usize],
+    work64: &mut [f64],
+    work32: &mut [f32],
+) -> AssignmentAnswer
+    ensures { λ r. ⌜ AssociateEnds (withinVerdict params boxes tracks (length (now (detections .entry))) (length (now (corners .entry))) (length (now («track_confidence» .entry))) (length (now («detection_confidence» .entry)))
+        (length (now («pair_boxes» .entry))) (length (now («pair_tracks» .entry))) (length (now («unmatched_detections» .entry))) (length (now («unmatched_tracks» .entry))) (length (now (work64 .entry))) (length (now (work32 .entry))))
+        boxes tracks (ious boxes tracks (now (detections .entry)) (now (corners .entry))) (params .«iou_threshold»)
+        (Association.associate params boxes tracks (now (detections .entry)) (now (corners .entry)) (take (boxes * tracks) (now (work32 .entry))) (now («track_confidence» .entry)) (now («detection_confidence» .entry)))
+        (now («pair_boxes» .entry)) (now («pair_tracks» .entry)) (now («unmatched_detections» .entry)) (now («unmatched_tracks» .entry)) (now (work64 .entry)) (now (work32 .entry))
+        r (now («pair_boxes» .exit)) (now («pair_tracks» .exit)) (now («unmatched_detections» .exit)) (now («unmatched_tracks» .exit)) (now (work64 .exit)) (now (work32 .exit)) ⌝ }
+{
+    let verdict = within_verdict(
+        params,
+        boxes,
+        tracks,
+        detections.len(),
+        corners.len(),
+        track_confidence.len(),
+        detection_confidence.len(),
+        pair_boxes.len(),
+        pair_tracks.len(),
+        unmatched_detections.len(),
+        unmatched_tracks.len(),
+        work64.len(),
+        work32.len(),
+    );
+    if let Verdict::Refused(why) = verdict {
+        return AssignmentAnswer::Refused(why);
+    }
+    liken_within(params.has_mahalanobis, boxes, tracks, work32);
+    let counts = pair_up(
+        params,
+        boxes,
+        tracks,
+        detections,
+        corners,
+        track_confidence,
+        detection_confidence,
+        pair_boxes,
+        pair_tracks,
+        unmatched_detections,
+        unmatched_tracks,
+        work64,
+        work32,
+    );
+    AssignmentAnswer::Assigned(counts)
+}

@@ -1,0 +1,26 @@
+-- `assoc_vectors::association::lent` meets its contract: each length lent is within its array. Assumes nothing.
+use mathlib.Core.Path.{sym}
+use native.Mathlib.Omega.{arith}
+use lib.Seq.{length-take-le}
+use borrow.Author.Needs.{needs}
+use Rattle.assoc_vectors.proofs.association.lent.Statement.{statement}
+use Rattle.assoc_vectors.proofs.association.lent.Tie as tie
+
+pub lent-spec : {M : Type 1} → statement M
+lent-spec =
+    tie.close
+    (tie.spec
+    (λ c. search needs)
+    (λ c. sym (length-take-le _ _ (omega arith)))
+    (λ c. search needs)
+    (λ c. sym (length-take-le _ _ (omega arith)))
+    (λ c. search needs)
+    (λ c. sym (length-take-le _ _ (omega arith)))
+    (λ c. search needs)
+    (λ c. sym (length-take-le _ _ (omega arith)))
+    (λ c. search needs)
+    (λ c. sym (length-take-le _ _ (omega arith)))
+    (λ c. search needs)
+    (λ c. sym (length-take-le _ _ (omega arith)))
+    (λ c κs. search needs)
+    (λ c. search needs))

@@ -1,0 +1,282 @@
+// The pairing.
+use assoc::AssignmentAnswer;
+use assoc::MatchAnswer;
+use similarity::AssociateParams;
+use similarity::Refusal;
+use similarity::Verdict;
+ghost use mathlib.Core.Path.{_≡_};
+ghost use lib.ListN.{length};
+ghost use Rattle.similarity.specs.Refusal as Refusals;
+ghost use Rattle.similarity.specs.Sizes.{ofCorners, ofConfidences, ofDistances};
+ghost use Rattle.similarity.specs.Overlap.{iouBatch, softBiouBatch};
+ghost use Rattle.similarity.specs.Shape.{shapeSimilarityV1, shapeSimilarityV2};
+ghost use Rattle.similarity.specs.Mahalanobis.{mhDistSimilarity};
+ghost use Rattle.bedside.specs.Pairs.{MatrixInC, matchedInC, MatchInC, assignmentInC, AssignmentInC, paramsOf, AssociateInC};
+
+#[repr(C)]
+pub struct Matched {
+    pub refusal: u32,
+    pub pairs: u64,
+    pub turns: u64,
+    pub scans: u64,
+}
+
+#[repr(C)]
+pub struct Assignment {
+    pub refusal: u32,
+    pub pairs: u64,
+    pub detections: u64,
+    pub tracks: u64,
+    pub turns: u64,
+    pub scans: u64,
+}
+
+#[repr(C)]
+pub struct Params {
+    pub iou_threshold: f32,
+    pub lambda_iou: f32,
+    pub lambda_mhd: f32,
+    pub lambda_shape: f32,
+    pub use_shape_similarity_correction: bool,
+    pub has_mahalanobis: bool,
+    pub has_confidence: bool,
+}
+
+// ---- answers
+
+fn number(why: Refusal) -> u32
+    ensures { λ r. ⌜ r ≡ Refusals.number why ⌝ }
+{
+    match why {
+        Refusal::TooMany => 31,
+        Refusal::OtherSize => 32,
+        Refusal::TooShort => 33,
+    }
+}
+
+fn of_verdict(v: Verdict) -> u32
+    ensures { λ r. ⌜ r ≡ Refusals.verdictNumber v ⌝ }
+{
+    match v {
+        Verdict::Accepted => 0,
+        Verdict::Refused(why) => number(why),
+    }
+}
+
+fn of_match(a: MatchAnswer) -> Matched
+    ensures { λ r. ⌜ r ≡ matchedInC a ⌝ }
+{
+    match a {
+        MatchAnswer::Matched(c) => Matched {
+            refusal: 0,
+            pairs: c.pairs as u64,
+            turns: c.turns as u64,
+            scans: c.scans as u64,
+        },
+        MatchAnswer::Refused(why) => Matched {
+            refusal: number(why),
+            pairs: 0,
+            turns: 0,
+            scans: 0,
+        },
+    }
+}
+
+fn of_assignment(a: AssignmentAnswer) -> Assignment
+    ensures { λ r. ⌜ r ≡ assignmentInC a ⌝ }
+{
+    match a {
+        AssignmentAnswer::Assigned(c) => Assignment {
+            refusal: 0,
+            pairs: c.pairs as u64,
+            detections: c.detections as u64,
+            tracks: c.tracks as u64,
+            turns: c.turns as u64,
+            scans: c.scans as u64,
+        },
+        AssignmentAnswer::Refused(why) => Assignment {
+            refusal: number(why),
+            pairs: 0,
+            detections: 0,
+            tracks: 0,
+            turns: 0,
+            scans: 0,
+        },
+    }
+}
+
+// ---- matrices
+
+#[no_mangle]
+pub extern "C" fn bedside_iou_batch(
+    boxes: usize,
+    tracks: usize,
+    detections: &[f32],
+    corners: &[f32],
+    out: &mut [f32],
+) -> u32
+    ensures { λ r. ⌜ MatrixInC (ofCorners boxes tracks (length (now (detections .entry))) (length (now (corners .entry))) (length (now (out .entry)))) (iouBatch (now (detections .entry)) (now (corners .entry))) boxes tracks (now (out .entry)) r (now (out .exit)) ⌝ }
+{
+    of_verdict(similarity::iou_batch(boxes, tracks, detections, corners, out))
+}
+
+#[no_mangle]
+pub extern "C" fn bedside_soft_biou_batch(
+    boxes: usize,
+    tracks: usize,
+    detections: &[f32],
+    corners: &[f32],
+    confidences: &[f32],
+    out: &mut [f32],
+) -> u32
+    ensures { λ r. ⌜ MatrixInC (ofConfidences boxes tracks (length (now (detections .entry))) (length (now (corners .entry))) (length (now (confidences .entry))) (length (now (out .entry)))) (softBiouBatch (now (detections .entry)) (now (corners .entry)) (now (confidences .entry))) boxes tracks (now (out .entry)) r (now (out .exit)) ⌝ }
+{
+    of_verdict(similarity::soft_biou_batch(boxes, tracks, detections, corners, confidences, out))
+}
+
+#[no_mangle]
+pub extern "C" fn bedside_shape_similarity_v1(
+    boxes: usize,
+    tracks: usize,
+    detections: &[f32],
+    corners: &[f32],
+    out: &mut [f32],
+) -> u32
+    ensures { λ r. ⌜ MatrixInC (ofCorners boxes tracks (length (now (detections .entry))) (length (now (corners .entry))) (length (now (out .entry)))) (shapeSimilarityV1 (now (detections .entry)) (now (corners .entry))) boxes tracks (now (out .entry)) r (now (out .exit)) ⌝ }
+{
+    of_verdict(similarity::shape_similarity_v1(boxes, tracks, detections, corners, out))
+}
+
+#[no_mangle]
+pub extern "C" fn bedside_shape_similarity_v2(
+    boxes: usize,
+    tracks: usize,
+    detections: &[f32],
+    corners: &[f32],
+    out: &mut [f32],
+) -> u32
+    ensures { λ r. ⌜ MatrixInC (ofCorners boxes tracks (length (now (detections .entry))) (length (now (corners .entry))) (length (now (out .entry)))) (shapeSimilarityV2 (now (detections .entry)) (now (corners .entry))) boxes tracks (now (out .entry)) r (now (out .exit)) ⌝ }
+{
+    of_verdict(similarity::shape_similarity_v2(boxes, tracks, detections, corners, out))
+}
+
+#[no_mangle]
+pub extern "C" fn bedside_mh_dist_similarity(
+    boxes: usize,
+    tracks: usize,
+    distance: &[f32],
+    temperature: f32,
+    out: &mut [f32],
+) -> u32
+    ensures { λ r. ⌜ MatrixInC (ofDistances boxes tracks (length (now (distance .entry))) (length (now (out .entry)))) (mhDistSimilarity (now (distance .entry)) temperature boxes tracks) boxes tracks (now (out .entry)) r (now (out .exit)) ⌝ }
+{
+    of_verdict(similarity::mh_dist_similarity(boxes, tracks, distance, temperature, out))
+}
+
+// ---- pairs
+
+#[no_mangle]
+pub extern "C" fn bedside_match_detections(
+    boxes: usize,
+    tracks: usize,
+    cost: &[f32],
+    threshold: f32,
+    pair_boxes: &mut [usize],
+    pair_tracks: &mut [usize],
+    work: &mut [f64],
+) -> Matched
+    ensures { λ r. ⌜ MatchInC boxes tracks (now (cost .entry)) threshold (now («pair_boxes» .entry)) (now («pair_tracks» .entry)) (now (work .entry)) r (now («pair_boxes» .exit)) (now («pair_tracks» .exit)) (now (work .exit)) ⌝ }
+{
+    of_match(assoc::match_detections(
+        boxes,
+        tracks,
+        cost,
+        threshold,
+        pair_boxes,
+        pair_tracks,
+        work,
+    ))
+}
+
+#[no_mangle]
+pub extern "C" fn bedside_linear_assignment(
+    boxes: usize,
+    tracks: usize,
+    iou: &[f32],
+    cost: &[f32],
+    threshold: f32,
+    pair_boxes: &mut [usize],
+    pair_tracks: &mut [usize],
+    unmatched_detections: &mut [usize],
+    unmatched_tracks: &mut [usize],
+    work: &mut [f64],
+) -> Assignment
+    ensures { λ r. ⌜ AssignmentInC boxes tracks (now (iou .entry)) (now (cost .entry)) threshold (now («pair_boxes» .entry)) (now («pair_tracks» .entry)) (now («unmatched_detections» .entry)) (now («unmatched_tracks» .entry)) (now (work .entry))
+        r (now («pair_boxes» .exit)) (now («pair_tracks» .exit)) (now («unmatched_detections» .exit)) (now («unmatched_tracks» .exit)) (now (work .exit)) ⌝ }
+{
+    of_assignment(assoc::linear_assignment(
+        boxes,
+        tracks,
+        iou,
+        cost,
+        threshold,
+        pair_boxes,
+        pair_tracks,
+        unmatched_detections,
+        unmatched_tracks,
+        work,
+    ))
+}
+
+fn params_of(p: Params) -> AssociateParams
+    ensures { λ r. ⌜ r ≡ paramsOf p ⌝ }
+{
+    AssociateParams {
+        iou_threshold: p.iou_threshold,
+        lambda_iou: p.lambda_iou,
+        lambda_mhd: p.lambda_mhd,
+        lambda_shape: p.lambda_shape,
+        use_shape_similarity_correction: p.use_shape_similarity_correction,
+        has_mahalanobis: p.has_mahalanobis,
+        has_confidence: p.has_confidence,
+    }
+}
+
+#[no_mangle]
+pub extern "C" fn bedside_associate(
+    params: Params,
+    boxes: usize,
+    tracks: usize,
+    detections: &[f32],
+    corners: &[f32],
+    mahalanobis: &[f32],
+    track_confidence: &[f32],
+    detection_confidence: &[f32],
+    pair_boxes: &mut [usize],
+    pair_tracks: &mut [usize],
+    unmatched_detections: &mut [usize],
+    unmatched_tracks: &mut [usize],
+    work64: &mut [f64],
+    work32: &mut [f32],
+) -> Assignment
+    ensures { λ r. ⌜ AssociateInC (paramsOf params) boxes tracks (now (detections .entry)) (now (corners .entry)) (now (mahalanobis .entry)) (now («track_confidence» .entry)) (now («detection_confidence» .entry))
+        (now («pair_boxes» .entry)) (now («pair_tracks» .entry)) (now («unmatched_detections» .entry)) (now («unmatched_tracks» .entry)) (now (work64 .entry)) (now (work32 .entry))
+        r (now («pair_boxes» .exit)) (now («pair_tracks» .exit)) (now («unmatched_detections» .exit)) (now («unmatched_tracks» .exit)) (now (work64 .exit)) (now (work32 .exit)) ⌝ }
+{
+    of_assignment(assoc::associate(
+        params_of(params),
+        boxes,
+        tracks,
+        detections,
+        corners,
+        mahalanobis,
+        track_confidence,
+        detection_confidence,
+        pair_boxes,
+        pair_tracks,
+        unmatched_detections,
+        unmatched_tracks,
+        work64,
+        work32,
+    ))
+}

@@ -1,0 +1,95 @@
+// The verdict on a call, from its sides and the lengths of its slices.
+use similarity::Refusal;
+use similarity::Verdict;
+ghost use mathlib.Core.Path.{_≡_};
+ghost use Prim.Native.Nat.{_≤_};
+ghost use Rattle.similarity.specs.Refusal.{tooMany};
+ghost use Rattle.boosts.specs.Sizes as Sizes;
+
+// 31 before 32 and 33, so that no product is taken of sides above 255.
+fn too_many(boxes: usize, tracks: usize) -> bool
+    ensures { λ r. ⌜ r ≡ tooMany boxes tracks ⌝ }
+{
+    (boxes > 255) | (tracks > 255)
+}
+
+// The verdict on a matrix of distances.
+pub(crate) fn of_states(
+    boxes: usize,
+    tracks: usize,
+    detections: usize,
+    x: usize,
+    sigma: usize,
+    out: usize,
+) -> Verdict
+    ensures { λ r. ⌜ r ≡ Sizes.ofStates boxes tracks detections x sigma out ⌝ }
+{
+    if too_many(boxes, tracks) {
+        return Verdict::Refused(Refusal::TooMany);
+    }
+    if (detections != boxes * 4) | (x != tracks * 4) | (sigma != tracks * 4) {
+        return Verdict::Refused(Refusal::OtherSize);
+    }
+    if out < boxes * tracks {
+        return Verdict::Refused(Refusal::TooShort);
+    }
+    Verdict::Accepted
+}
+
+fn other_boxes(boxes: usize, detections: usize, scores: usize) -> bool
+    requires { ⌜ boxes ≤ 255 ⌝ }
+    ensures { λ r. ⌜ r ≡ Sizes.otherBoxes boxes detections scores ⌝ }
+{
+    (detections != boxes * 4) | (scores != boxes)
+}
+
+fn other_tracks(tracks: usize, corners: usize, confidences: usize, since: usize) -> bool
+    requires { ⌜ tracks ≤ 255 ⌝ }
+    ensures { λ r. ⌜ r ≡ Sizes.otherTracks tracks corners confidences since ⌝ }
+{
+    (corners != tracks * 4) | (confidences != tracks) | (since != tracks)
+}
+
+// The verdict on a DUO boost.
+pub(crate) fn of_duo(
+    boxes: usize,
+    tracks: usize,
+    detections: usize,
+    distance: usize,
+    scores: usize,
+) -> Verdict
+    ensures { λ r. ⌜ r ≡ Sizes.ofDuo boxes tracks detections distance scores ⌝ }
+{
+    if too_many(boxes, tracks) {
+        return Verdict::Refused(Refusal::TooMany);
+    }
+    if other_boxes(boxes, detections, scores) {
+        return Verdict::Refused(Refusal::OtherSize);
+    }
+    if distance < boxes * tracks {
+        return Verdict::Refused(Refusal::TooShort);
+    }
+    Verdict::Accepted
+}
+
+// The verdict on a DLO boost.
+pub(crate) fn of_dlo(
+    boxes: usize,
+    tracks: usize,
+    detections: usize,
+    corners: usize,
+    confidences: usize,
+    since: usize,
+    distance: usize,
+    scores: usize,
+) -> Verdict
+    ensures { λ r. ⌜ r ≡ Sizes.ofDlo boxes tracks detections corners confidences since distance scores ⌝ }
+{
+    if too_many(boxes, tracks) {
+        return Verdict::Refused(Refusal::TooMany);
+    }
+    if other_tracks(tracks, corners, confidences, since) {
+        return Verdict::Refused(Refusal::OtherSize);
+    }
+    of_duo(boxes, tracks, detections, distance, scores)
+}

@@ -1,0 +1,144 @@
+-- How often a number stands in a list: lists without repetition, and the pigeonhole. Assumes nothing.
+use mathlib.Core.Path.{_≡_, refl, sym, ap, _∙_}
+use mathlib.Core.Bool.{Bool, true, false, cond}
+use mathlib.Core.List.{List, [], _∷_, _++_}
+use Prim.Native.Nat.{ℕ, zero, suc, _+_, _≤_, _<_, zero-le}
+use native.Mathlib.Nat.{le-refl, le-of-eq, add-zero, zero-add, le-trans, not-suc-le-zero, le-of-suc-le-suc}
+use native.Mathlib.Omega.{arith}
+use lib.Dec.{ltb, eqb}
+use lib.ListN.{length, getD}
+use borrow.Author.Tests.{ltb-true, eqb-true, eqb-false, lt-ltb, eq-eqb, ne-eqb}
+use Rattle.laws.specs.Tab.{tab, indices}
+use Rattle.laws.specs.Sieve.{sieve}
+use Rattle.laws.specs.Count.{bit, bit-le, count, count-is}
+
+-- how often b stands in a list
+unfoldable pub occurs : ℕ → List ℕ → ℕ
+occurs b [] = 0
+occurs b (x ∷ xs) = bit (eqb b x) + occurs b xs
+
+pub occurs-append : (b : ℕ) (xs ys : List ℕ) → occurs b (xs ++ ys) ≡ occurs b xs + occurs b ys
+unfolding occurs
+occurs-append b [] ys = omega arith
+occurs-append b (x ∷ xs) ys = let e = occurs-append b xs ys in omega arith
+
+occurs-up : (b n : ℕ) → occurs b (indices n) ≡ count (λ i. eqb b i) n
+unfolding occurs count tab
+occurs-up b zero = refl
+occurs-up b (suc n) = occurs-append b (indices n) (n ∷ []) ∙ rw (occurs-up b n) (ap (λ (k : ℕ). count (λ i. eqb b i) n + k) (add-zero (bit (eqb b n))))
+
+pub occurs-indices : (b n : ℕ) → occurs b (indices n) ≡ bit (ltb b n)
+occurs-indices b n = occurs-up b n ∙ count-is b n
+
+pub occurs-sieve : (b : ℕ) (q : ℕ → Bool) (xs : List ℕ) → occurs b (sieve q xs) ≡ cond (q b) (occurs b xs) 0
+unfolding occurs sieve
+occurs-sieve b q [] = by-cases (q b)
+  where
+    by-cases : (v : Bool) → _≡_ {A = ℕ} 0 (cond v 0 0)
+    by-cases true = refl
+    by-cases false = refl
+occurs-sieve b q (x ∷ xs) = by-cases (eqb b x) refl (q x) refl (occurs-sieve b q xs)
+  where
+    by-cases : (v : Bool) → eqb b x ≡ v → (w : Bool) → q x ≡ w → occurs b (sieve q xs) ≡ cond (q b) (occurs b xs) 0
+        → occurs b (cond w (x ∷ sieve q xs) (sieve q xs)) ≡ cond (q b) (bit v + occurs b xs) 0
+    by-cases true e true f r = let s = eqb-true b x e in let g : q b ≡ true = rw s f in rw (g, e) (ap (λ (k : ℕ). 1 + k) (rw g at r))
+    by-cases true e false f r = let s = eqb-true b x e in let g : q b ≡ false = rw s f in rw g (rw g at r)
+    by-cases false e true f r = rw (e, zero-add, zero-add) r
+    by-cases false e false f r = rw zero-add r
+
+eqb-sym : (a b : ℕ) → eqb a b ≡ eqb b a
+eqb-sym a b = by-cases (eqb b a) refl
+  where
+    by-cases : (v : Bool) → eqb b a ≡ v → eqb a b ≡ v
+    by-cases true e = eq-eqb a b (sym (eqb-true b a e))
+    by-cases false e = ne-eqb a b (λ (q : a ≡ b). eqb-false b a e (sym q))
+
+-- f 0 + .. + f (n - 1)
+unfoldable pub sum : (ℕ → ℕ) → ℕ → ℕ
+sum f zero = 0
+sum f (suc n) = sum f n + f n
+
+sum-add : (f g : ℕ → ℕ) (n : ℕ) → sum (λ i. f i + g i) n ≡ sum f n + sum g n
+unfolding sum
+sum-add f g zero = refl
+sum-add f g (suc n) = let e = sum-add f g n in omega arith
+
+sum-zero : (n : ℕ) → sum (λ i. 0) n ≡ 0
+unfolding sum
+sum-zero zero = refl
+sum-zero (suc n) = let e = sum-zero n in omega arith
+
+sum-ones : (f : ℕ → ℕ) (n : ℕ) → ((i : ℕ) → f i ≤ 1) → sum f n ≤ n
+unfolding sum
+sum-ones f zero h = zero-le
+sum-ones f (suc n) h = let a = sum-ones f n h in let b = h n in omega arith
+
+sum-each : (f : ℕ → ℕ) (n : ℕ) → ((i : ℕ) → i < n → f i ≡ 1) → sum f n ≡ n
+unfolding sum
+sum-each f zero h = refl
+sum-each f (suc n) h = let a = sum-each f n (λ (i : ℕ) (l : i < n). h i (omega arith)) in let b = h n (le-refl (suc n)) in omega arith
+
+sum-count : (x n : ℕ) → sum (λ b. bit (eqb b x)) n ≡ count (λ b. eqb x b) n
+unfolding sum count
+sum-count x zero = refl
+sum-count x (suc n) = rw (sum-count x n, eqb-sym n x)
+
+sum-is : (x n : ℕ) → x < n → sum (λ b. bit (eqb b x)) n ≡ 1
+sum-is x n h = sum-count x n ∙ count-is x n ∙ rw (lt-ltb x n h)
+
+occurs-sum : (xs : List ℕ) (n : ℕ) → ((b : ℕ) → 0 < occurs b xs → b < n) → length xs ≡ sum (λ b. occurs b xs) n
+unfolding occurs
+occurs-sum [] n h = sym (sum-zero n)
+occurs-sum (x ∷ xs) n h =
+    let here : x < n = h x (rw (eq-eqb x x refl) (omega arith)) in
+    let r : length xs ≡ sum (λ b. occurs b xs) n = occurs-sum xs n (λ (b : ℕ) (q : 0 < occurs b xs). h b (omega arith)) in
+    sym (sum-add (λ b. bit (eqb b x)) (λ b. occurs b xs) n ∙ rw (sum-is x n here, ← r) (one-add (length xs)))
+  where
+    one-add : (k : ℕ) → 1 + k ≡ suc k
+    one-add k = omega arith
+
+-- where only numbers below n may stand
+inside : (xs : List ℕ) (n b : ℕ) → occurs b xs ≤ bit (ltb b n) → 0 < occurs b xs → b < n
+inside xs n b h q = by-cases (ltb b n) refl h
+  where
+    by-cases : (v : Bool) → ltb b n ≡ v → occurs b xs ≤ bit v → b < n
+    by-cases true e l = ltb-true b n e
+    by-cases false e l = absurd (no (occurs b xs) q l)
+      where
+        no : (k : ℕ) → 0 < k → k ≤ 0 → ⊥
+        no k q l = omega arith
+
+-- numbers below n, none twice, are no more than n
+pub occurs-few : (xs : List ℕ) (n : ℕ) → ((b : ℕ) → occurs b xs ≤ bit (ltb b n)) → length xs ≤ n
+occurs-few xs n h =
+    rw (occurs-sum xs n (λ (b : ℕ) (q : 0 < occurs b xs). inside xs n b (h b) q))
+    (sum-ones (λ b. occurs b xs) n (λ (b : ℕ). le-trans (h b) (bit-le (ltb b n))))
+
+-- numbers below n, each of them once, are n
+pub occurs-all : (xs : List ℕ) (n : ℕ) → ((b : ℕ) → occurs b xs ≡ bit (ltb b n)) → length xs ≡ n
+occurs-all xs n h =
+    occurs-sum xs n (λ (b : ℕ) (q : 0 < occurs b xs). inside xs n b (le-of-eq (h b)) q)
+    ∙ sum-each (λ b. occurs b xs) n (λ (b : ℕ) (l : b < n). h b ∙ rw (lt-ltb b n l))
+
+-- what stands at a place stands in the list
+occurs-at : (xs : List ℕ) (i d : ℕ) → i < length xs → 1 ≤ occurs (getD xs i d) xs
+unfolding occurs
+occurs-at [] i d h = absurd (not-suc-le-zero h)
+occurs-at (x ∷ xs) zero d h = rw (eq-eqb x x refl) (omega arith)
+occurs-at (x ∷ xs) (suc i) d h = let r = occurs-at xs i d (le-of-suc-le-suc h) in omega arith
+
+-- each of them is below n
+pub occurs-below : (xs : List ℕ) (n : ℕ) → ((b : ℕ) → occurs b xs ≤ bit (ltb b n)) → (i d : ℕ) → i < length xs → getD xs i d < n
+occurs-below xs n h i d l = inside xs n (getD xs i d) (h (getD xs i d)) (occurs-at xs i d l)
+
+twice : (x : ℕ) (xs : List ℕ) (b : ℕ) → x ≡ b → 1 ≤ occurs b xs → bit (eqb x x) + occurs x xs ≤ 1 → ⊥
+twice x xs b e l k = let a : 1 ≤ occurs x xs = rw e l in let o : bit (eqb x x) ≡ 1 = rw (eq-eqb x x refl) in omega arith
+
+-- in a list without repetition two places that hold the same are one
+pub occurs-apart : (xs : List ℕ) (d : ℕ) → ((b : ℕ) → occurs b xs ≤ 1) → (i j : ℕ) → i < length xs → j < length xs → getD xs i d ≡ getD xs j d → i ≡ j
+unfolding occurs
+occurs-apart [] d h i j p q e = absurd (not-suc-le-zero p)
+occurs-apart (x ∷ xs) d h zero zero p q e = refl
+occurs-apart (x ∷ xs) d h zero (suc j) p q e = absurd (twice x xs (getD xs j d) e (occurs-at xs j d (le-of-suc-le-suc q)) (h x))
+occurs-apart (x ∷ xs) d h (suc i) zero p q e = absurd (twice x xs (getD xs i d) (sym e) (occurs-at xs i d (le-of-suc-le-suc p)) (h x))
+occurs-apart (x ∷ xs) d h (suc i) (suc j) p q e = ap suc (occurs-apart xs d (λ (b : ℕ). let k = h b in omega arith) i j (le-of-suc-le-suc p) (le-of-suc-le-suc q) e)

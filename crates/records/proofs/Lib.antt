@@ -1,0 +1,8 @@
+-- What the proofs of more than one function use: laws on plain numbers, floats and lists.
+pub mod Patterns
+pub mod Values
+pub mod Spreading
+pub mod Spelling
+pub mod Placing
+pub mod Puts
+pub mod Nth

@@ -1,0 +1,38 @@
+-- `records::box_record::box_of` meets its contract: each field is read from its bytes. Assumes nothing.
+use borrow.Author.Needs.{needs}
+use Rattle.records.specs.Laws.Fields.{box-fields}
+use Rattle.records.proofs.box_record.box_of.Statement.{statement}
+use Rattle.records.proofs.box_record.box_of.Tie as tie
+
+returns : tie.Need-returns
+returns c = box-fields (c .before .before .before .before .before .before .before .before .before .before .u32-of .ensures) (c .before .before .before .before .before .before .before .before .f32-of .ensures) (c .before .before .before .before .before .before .f32-of2 .ensures) (c .before .before .before .before .f32-of3 .ensures) (c .before .before .f32-of4 .ensures) (c .f32-of5 .ensures)
+
+pub box-of-spec : {M : Type 1} → statement M
+box-of-spec =
+    tie.close
+    (tie.spec
+    (λ c. search needs)
+    (λ c. search needs)
+    (λ c. search needs)
+    (λ c κs. search needs)
+    (λ c. search needs)
+    (λ c. search needs)
+    (λ c. search needs)
+    (λ c κs. search needs)
+    (λ c. search needs)
+    (λ c. search needs)
+    (λ c. search needs)
+    (λ c κs. search needs)
+    (λ c. search needs)
+    (λ c. search needs)
+    (λ c. search needs)
+    (λ c κs. search needs)
+    (λ c. search needs)
+    (λ c. search needs)
+    (λ c. search needs)
+    (λ c κs. search needs)
+    (λ c. search needs)
+    (λ c. search needs)
+    (λ c. search needs)
+    (λ c κs. search needs)
+    returns)

@@ -1,0 +1,26 @@
+-- `records::line::put_line` meets its contract: three writes, each behind the one before it. Assumes nothing.
+use borrow.Author.Needs.{needs}
+use native.Mathlib.Omega.{arith}
+use Rattle.records.specs.Line.{line}
+use Rattle.records.specs.Laws.Lengths.{length-line, length-decimal, length-decimal-ended}
+use Rattle.records.proofs.Puts.{put-next, put-put, put-length}
+use Rattle.records.proofs.line.put_line.Statement.{statement}
+use Rattle.records.proofs.line.put_line.Tie as tie
+
+put-decimal-requires : tie.Need-put-decimal-requires
+put-decimal-requires c κs = let t = c .before .before .before .args .t in omega (arith, c .before .before .before .pre, length-line t, length-decimal (t .frame))
+
+put-decimal-requires-2 : tie.Need-put-decimal-requires-2
+put-decimal-requires-2 c κs = let t = c .before .before .before .before .before .before .before .args .t in omega (arith, c .before .before .before .before .before .before .before .pre, length-line t, length-decimal (t .id), put-next (c .before .before .before .put-decimal .ensures) _ (length-decimal-ended (t .frame) 32))
+
+put-five-hex-requires : tie.Need-put-five-hex-requires
+put-five-hex-requires c κs =
+    let t = c .before .before .before .before .before .before .before .before .before .before .before .args .t in
+    omega (arith, c .before .before .before .before .before .before .before .before .before .before .before .pre, length-line t, put-next (c .before .before .before .before .before .before .before .put-decimal .ensures) _ (length-decimal-ended (t .frame) 32), put-next (c .before .before .before .put-decimal2 .ensures) _ (length-decimal-ended (t .id) 32))
+
+returns : tie.Need-returns
+unfolding line
+returns c = put-put (c .before .before .before .before .before .before .before .before .before .before .put-decimal .ensures) (put-put (c .before .before .before .before .before .before .put-decimal2 .ensures) (c .before .before .put-five-hex .ensures))
+
+pub put-line-spec : {M : Type 1} → statement M
+put-line-spec = tie.close (tie.spec (λ c. search needs) put-decimal-requires put-decimal-requires-2 put-five-hex-requires (λ c. put-length (returns c)) returns)

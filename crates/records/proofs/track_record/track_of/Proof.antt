@@ -1,0 +1,42 @@
+-- `records::track_record::track_of` meets its contract: each field is read from its bytes. Assumes nothing.
+use borrow.Author.Needs.{needs}
+use Rattle.records.specs.Laws.Fields.{track-fields}
+use Rattle.records.proofs.track_record.track_of.Statement.{statement}
+use Rattle.records.proofs.track_record.track_of.Tie as tie
+
+returns : tie.Need-returns
+returns c = track-fields (c .before .before .before .before .before .before .before .before .before .before .before .before .u32-of .ensures) (c .before .before .before .before .before .before .before .before .before .before .u64-of .ensures) (c .before .before .before .before .before .before .before .before .f32-of .ensures) (c .before .before .before .before .before .before .f32-of2 .ensures) (c .before .before .before .before .f32-of3 .ensures) (c .before .before .f32-of4 .ensures) (c .f32-of5 .ensures)
+
+pub track-of-spec : {M : Type 1} → statement M
+track-of-spec =
+    tie.close
+    (tie.spec
+    (λ c. search needs)
+    (λ c. search needs)
+    (λ c. search needs)
+    (λ c κs. search needs)
+    (λ c. search needs)
+    (λ c. search needs)
+    (λ c. search needs)
+    (λ c κs. search needs)
+    (λ c. search needs)
+    (λ c. search needs)
+    (λ c. search needs)
+    (λ c κs. search needs)
+    (λ c. search needs)
+    (λ c. search needs)
+    (λ c. search needs)
+    (λ c κs. search needs)
+    (λ c. search needs)
+    (λ c. search needs)
+    (λ c. search needs)
+    (λ c κs. search needs)
+    (λ c. search needs)
+    (λ c. search needs)
+    (λ c. search needs)
+    (λ c κs. search needs)
+    (λ c. search needs)
+    (λ c. search needs)
+    (λ c. search needs)
+    (λ c κs. search needs)
+    returns)

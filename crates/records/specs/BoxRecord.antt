@@ -1,0 +1,25 @@
+-- Document 01: "A box record is 24 bytes, little-endian: frame u32, then left, top, width, height, score as f32."
+use mathlib.Core.Bool.{cond}
+use mathlib.Core.List.{List, _++_}
+use Prim.Native.Nat.{ℕ, _*_, _/_}
+use lib.Dec.{ltb}
+use lib.ListN.{length}
+use Rattle.records.specs.declared.Written.{Written}
+use Rattle.records.specs.declared.box_record.BoxRecord.{BoxRecord}
+use Rattle.records.specs.declared.box_record.BoxAnswer.{BoxAnswer}
+use Rattle.records.specs.declared.box_record.BoxAnswer.the-variants.{Read, Short}
+use Rattle.records.specs.Field.{le, value, five, part, floatAt}
+use Rattle.records.specs.Written.{WritesRecord}
+
+abbrev pub boxBytes : BoxRecord → List ℕ
+boxBytes r = le 4 (r .frame) ++ five (r .left) (r .top) (r .width) (r .height) (r .score)
+
+abbrev pub boxOf : List ℕ → BoxRecord
+boxOf l = record { frame = value (part 0 4 l); left = floatAt 4 l; top = floatAt 8 l; width = floatAt 12 l; height = floatAt 16 l; score = floatAt 20 l }
+
+-- record k of a slice, where it has more than k whole ones
+unfoldable pub boxAt : List ℕ → ℕ → BoxAnswer
+boxAt l k = cond (ltb k (length l / 24)) (Read (boxOf (part (k * 24) 24 l))) Short
+
+abbrev pub WritesBox : BoxRecord → ℕ → List ℕ → Written → List ℕ → Type 0
+WritesBox r k out w out′ = WritesRecord 24 k (boxBytes r) out w out′

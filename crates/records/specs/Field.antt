@@ -1,0 +1,33 @@
+-- A field of a record, little-endian: document 01, "Records and limits". A byte is a number below 256.
+use mathlib.Core.List.{List, [], _∷_, _++_}
+use Prim.Native.Nat.{ℕ, zero, suc, _+_, _*_, _/_, _%_}
+use lib.Ieee.{Float, binary32, toBits, ofBits}
+use lib.ListN.{take, drop}
+
+-- n in k bytes, the lowest first
+unfoldable pub le : ℕ → ℕ → List ℕ
+le zero n = []
+le (suc k) n = n % 256 ∷ le k (n / 256)
+
+-- the number that bytes are read as
+unfoldable pub value : List ℕ → ℕ
+value [] = 0
+value (b ∷ bs) = b + 256 * value bs
+
+-- the bit pattern of an f32, that of the one NaN being 7fc00000; and the f32 of a bit pattern, the one NaN for each pattern that IEEE 754 gives to a NaN
+abbrev pub bits : Float → ℕ
+bits x = toBits binary32 x
+
+abbrev pub float : ℕ → Float
+float n = ofBits binary32 n
+
+-- five f32, one after the other
+abbrev pub five : Float → Float → Float → Float → Float → List ℕ
+five a b c d e = le 4 (bits a) ++ (le 4 (bits b) ++ (le 4 (bits c) ++ (le 4 (bits d) ++ le 4 (bits e))))
+
+-- the number, and the f32, in the bytes from `at` on
+abbrev pub part : ℕ → ℕ → List ℕ → List ℕ
+part at k l = take k (drop at l)
+
+abbrev pub floatAt : ℕ → List ℕ → Float
+floatAt at l = float (value (part at 4 l))

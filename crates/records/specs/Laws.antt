@@ -1,0 +1,151 @@
+-- What holds of the definitions: a record is read back as it was written, bytes are written back as they were read, up to the one NaN; digits are read back as the number, and are as few
+-- as can be; and the longest lines. The modules below it are steps of the proofs. Assumes nothing.
+pub mod Digits
+pub mod Lengths
+pub mod Fields
+pub mod Bytes
+use mathlib.Core.Path.{_≡_, refl, ap, _∙_}
+use mathlib.Core.Bool.{false}
+use mathlib.Core.List.{List, _++_}
+use Prim.Native.Nat.{ℕ, _+_, _-_, _*_, _/_, _^_, _≤_, _<_}
+use native.Mathlib.Nat.{le-refl, le-of-eq, lt-of-lt-of-le}
+use native.Mathlib.Omega.{arith}
+use lib.Dec.{T, lit<, lit≤}
+use lib.Ieee.{Float, binary32, fits, nanBits}
+use lib.Ieee.Bits.{toBits-lt}
+use lib.ListN.{length, take, drop}
+use lib.Seq.{take-all, take-at, drop-at, length-take-le}
+use borrow.Author.Tests.{lt-ltb, le-leb}
+use Rattle.laws.specs.Splice.{splice, length-splice}
+use Rattle.records.specs.declared.box_record.BoxRecord.{BoxRecord}
+use Rattle.records.specs.declared.box_record.BoxAnswer.the-variants as box-answer
+use Rattle.records.specs.declared.track_record.TrackRecord.{TrackRecord}
+use Rattle.records.specs.declared.track_record.TrackAnswer.the-variants as track-answer
+use Rattle.records.specs.declared.Written.{Written}
+use Rattle.records.specs.declared.Written.the-variants as written
+use Rattle.records.specs.Written.{WritesRecord, WritesText}
+use Rattle.records.specs.Field.{le, value, bits, part}
+use Rattle.records.specs.Text.{places, decimal, hex}
+use Rattle.records.specs.BoxRecord.{boxBytes, boxOf, boxAt}
+use Rattle.records.specs.TrackRecord.{trackBytes, trackOf, trackAt}
+use Rattle.records.specs.Line.{line, refusedLine}
+use Rattle.records.specs.Laws.Digits.{few-below, most-places, enough-places, fewest-places, readAs, read-digits}
+use Rattle.records.specs.Laws.Lengths.{length-box, length-track, length-decimal, length-line, length-refused}
+use Rattle.records.specs.Laws.Fields.{box-fields, track-fields}
+use Rattle.records.specs.Laws.Bytes.{AreBytes, value-le, float-le, settled, rejoin, le-part, settled-part}
+
+-- ---- a record that is written and read again is the same. The logic has one NaN, so this holds of every record that the code can hold, NaNs among its floats included.
+
+pub record BoxFits (r : BoxRecord) : Type 0 where
+  pub frame : r .frame < 2 ^ 32
+  pub left : T (fits binary32 (r .left))
+  pub top : T (fits binary32 (r .top))
+  pub width : T (fits binary32 (r .width))
+  pub height : T (fits binary32 (r .height))
+  pub score : T (fits binary32 (r .score))
+
+pub record TrackFits (t : TrackRecord) : Type 0 where
+  pub frame : t .frame < 2 ^ 32
+  pub id : t .id < 2 ^ 64
+  pub left : T (fits binary32 (t .left))
+  pub top : T (fits binary32 (t .top))
+  pub width : T (fits binary32 (t .width))
+  pub height : T (fits binary32 (t .height))
+  pub confidence : T (fits binary32 (t .confidence))
+
+pub box-decode : (r : BoxRecord) → BoxFits r → boxOf (boxBytes r) ≡ r
+unfolding le
+box-decode r h =
+    box-fields (value-le 4 (r .frame) (h .frame)) (float-le (r .left) (h .left)) (float-le (r .top) (h .top)) (float-le (r .width) (h .width)) (float-le (r .height) (h .height)) (float-le (r .score) (h .score))
+
+pub track-decode : (t : TrackRecord) → TrackFits t → trackOf (trackBytes t) ≡ t
+unfolding le
+track-decode t h =
+    track-fields (value-le 4 (t .frame) (h .frame)) (value-le 8 (t .id) (h .id)) (float-le (t .left) (h .left)) (float-le (t .top) (h .top)) (float-le (t .width) (h .width)) (float-le (t .height) (h .height))
+    (float-le (t .confidence) (h .confidence))
+
+-- record k of a slice that it was written into
+nth-part : (s k : ℕ) (xs l : List ℕ) → length xs ≡ s → k * s + s ≤ length l → part (k * s) s (splice l (k * s) xs) ≡ xs
+nth-part s k xs l e h =
+    rw (drop-at (take (k * s) l) (xs ++ drop (k * s + length xs) l) (k * s) (length-take-le (k * s) l (omega arith))) (take-at xs (drop (k * s + length xs) l) s e)
+
+pub box-written : (r : BoxRecord) (k : ℕ) (l : List ℕ) → BoxFits r → k < length l / 24 → boxAt (splice l (k * 24) (boxBytes r)) k ≡ box-answer.Read r
+unfolding boxAt
+box-written r k l h q =
+    let n = length-box r in
+    let e : length (splice l (k * 24) (boxBytes r)) ≡ length l = length-splice l (k * 24) (boxBytes r) (omega arith) in
+    rw (e, lt-ltb k (length l / 24) q) (ap box-answer.Read (ap boxOf (nth-part 24 k (boxBytes r) l n (omega arith)) ∙ box-decode r h))
+
+pub track-written : (t : TrackRecord) (k : ℕ) (l : List ℕ) → TrackFits t → k < length l / 32 → trackAt (splice l (k * 32) (trackBytes t)) k ≡ track-answer.Read t
+unfolding trackAt
+track-written t k l h q =
+    let n = length-track t in
+    let e : length (splice l (k * 32) (trackBytes t)) ≡ length l = length-splice l (k * 32) (trackBytes t) (omega arith) in
+    rw (e, lt-ltb k (length l / 32) q) (ap track-answer.Read (ap trackOf (nth-part 32 k (trackBytes t) l n (omega arith)) ∙ track-decode t h))
+
+-- ---- bytes that are read and written again are the same, but for the four bytes of each f32 that are a NaN's pattern: they become those of the one NaN
+
+pub box-encode : (l : List ℕ) → AreBytes l → length l ≡ 24
+    → boxBytes (boxOf l) ≡ part 0 4 l ++ (settled (part 4 4 l) ++ (settled (part 8 4 l) ++ (settled (part 12 4 l) ++ (settled (part 16 4 l) ++ settled (part 20 4 l)))))
+box-encode l h n =
+    rw (le-part 0 4 l h (omega arith), settled-part 4 l h (omega arith), settled-part 8 l h (omega arith), settled-part 12 l h (omega arith), settled-part 16 l h (omega arith), settled-part 20 l h (omega arith))
+
+pub track-encode : (l : List ℕ) → AreBytes l → length l ≡ 32
+    → trackBytes (trackOf l)
+    ≡ part 0 4 l ++ (part 4 8 l ++ (settled (part 12 4 l) ++ (settled (part 16 4 l) ++ (settled (part 20 4 l) ++ (settled (part 24 4 l) ++ settled (part 28 4 l))))))
+track-encode l h n =
+    rw (le-part 0 4 l h (omega arith), le-part 4 8 l h (omega arith), settled-part 12 l h (omega arith), settled-part 16 l h (omega arith), settled-part 20 l h (omega arith), settled-part 24 l h (omega arith), settled-part 28 l h (omega arith))
+
+-- none of the five f32 from `at` on is a NaN's pattern
+pub record NoNans (at : ℕ) (l : List ℕ) : Type 0 where
+  pub first : nanBits binary32 (value (part at 4 l)) ≡ false
+  pub second : nanBits binary32 (value (part (at + 4) 4 l)) ≡ false
+  pub third : nanBits binary32 (value (part (at + 8) 4 l)) ≡ false
+  pub fourth : nanBits binary32 (value (part (at + 12) 4 l)) ≡ false
+  pub fifth : nanBits binary32 (value (part (at + 16) 4 l)) ≡ false
+
+pub box-same : (l : List ℕ) → AreBytes l → length l ≡ 24 → NoNans 4 l → boxBytes (boxOf l) ≡ l
+box-same l h n m =
+    box-encode l h n
+    ∙ rw (m .first, m .second, m .third, m .fourth, m .fifth, rejoin l 16 4 4, rejoin l 12 4 8, rejoin l 8 4 12, rejoin l 4 4 16, rejoin l 0 4 20) (take-all 24 l (le-of-eq n))
+
+pub track-same : (l : List ℕ) → AreBytes l → length l ≡ 32 → NoNans 12 l → trackBytes (trackOf l) ≡ l
+track-same l h n m =
+    track-encode l h n
+    ∙ rw (m .first, m .second, m .third, m .fourth, m .fifth, rejoin l 24 4 4, rejoin l 20 4 8, rejoin l 16 4 12, rejoin l 12 4 16, rejoin l 4 8 20, rejoin l 0 4 28) (take-all 32 l (le-of-eq n))
+
+-- ---- digits are read back as the number; a number of two digits or more has no zero in front
+
+pub decimal-read : (n : ℕ) → n < 2 ^ 64 → readAs 10 (decimal n) ≡ n
+unfolding decimal
+decimal-read n h = read-digits 10 (places n) n (lit< tt) (lit≤ tt) (enough-places 19 n (lt-of-lt-of-le h (lit≤ tt)))
+
+pub decimal-fewest : (n : ℕ) → 10 ≤ n → 10 ^ (length (decimal n) - 1) ≤ n
+decimal-fewest n h = rw (length-decimal n) (fewest-places 19 n h)
+
+pub hex-read : (x : Float) → T (fits binary32 x) → readAs 16 (hex x) ≡ bits x
+unfolding hex
+hex-read x h = read-digits 16 8 (bits x) (lit< tt) (le-refl 16) (toBits-lt binary32 x h)
+
+-- ---- the longest texts
+
+pub decimal-most : (n : ℕ) → length (decimal n) ≤ 20
+decimal-most n = rw (length-decimal n) (most-places n)
+
+pub line-most : (t : TrackRecord) → t .frame < 2 ^ 32 → length (line t) ≤ 77
+line-most t h = let n = length-line t in let a = few-below 19 9 (t .frame) (lt-of-lt-of-le h (lit≤ tt)) in let b = most-places (t .id) in omega arith
+
+pub refused-most : (number nth : ℕ) → length (refusedLine number nth) ≤ 57
+refused-most number nth = let n = length-refused number nth in let a = most-places number in let b = most-places nth in omega arith
+
+-- ---- for callers: what a call that had room answered and left
+
+pub record-fitted : (s k : ℕ) (xs out : List ℕ) (w : Written) (out′ : List ℕ) → WritesRecord s k xs out w out′ → k < length out / s → (w ≡ written.Bytes (length xs)) × (out′ ≡ splice out (k * s) xs)
+record-fitted s k xs out w out′ h q = let e = lt-ltb k (length out / s) q in (rw e at (h .answer), rw e at (h .cells))
+
+pub text-fitted : (xs out : List ℕ) (w : Written) (out′ : List ℕ) → WritesText xs out w out′ → length xs ≤ length out → (w ≡ written.Bytes (length xs)) × (out′ ≡ splice out 0 xs)
+text-fitted xs out w out′ h q = let e = le-leb (length xs) (length out) q in (rw e at (h .answer), rw e at (h .cells))
+
+-- a text that was written at the front is there
+pub text-written : (xs l : List ℕ) → take (length xs) (splice l 0 xs) ≡ xs
+text-written xs l = take-at xs (drop (0 + length xs) l) (length xs) refl

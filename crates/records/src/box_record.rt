@@ -1,0 +1,70 @@
+// A box record: 24 bytes, a frame number and a scored box.
+use super::Written;
+use super::field::f32_of;
+use super::field::put_five;
+use super::field::put_u32;
+use super::field::u32_of;
+ghost use mathlib.Core.Path.{_≡_};
+ghost use Prim.Native.Nat.{_+_, _≤_};
+ghost use lib.ListN.{length};
+ghost use Rattle.records.specs.BoxRecord.{boxOf, boxBytes, boxAt, WritesBox};
+ghost use Rattle.records.specs.Steps.{Put};
+
+pub struct BoxRecord {
+    pub frame: u32,
+    pub left: f32,
+    pub top: f32,
+    pub width: f32,
+    pub height: f32,
+    pub score: f32,
+}
+
+// The answer of a call that reads: the record, or that the slice ends before it does.
+pub enum BoxAnswer {
+    Read(BoxRecord),
+    Short,
+}
+
+fn box_of(b: &[u8]) -> BoxRecord
+    requires { ⌜ length (now b) ≡ 24 ⌝ }
+    ensures { λ r. ⌜ r ≡ boxOf (now (b .entry)) ⌝ }
+{
+    BoxRecord {
+        frame: u32_of(&b[0..4]),
+        left: f32_of(&b[4..8]),
+        top: f32_of(&b[8..12]),
+        width: f32_of(&b[12..16]),
+        height: f32_of(&b[16..20]),
+        score: f32_of(&b[20..24]),
+    }
+}
+
+fn put_box(out: &mut [u8], at: usize, r: BoxRecord) -> usize
+    requires { ⌜ at + 24 ≤ length (now out) ⌝ }
+    ensures { λ end. ⌜ Put at (boxBytes r) (now (out .entry)) end (now (out .exit)) ⌝ }
+{
+    let floats = put_u32(out, at, r.frame);
+    put_five(out, floats, r.left, r.top, r.width, r.height, r.score)
+}
+
+// Box record k of a slice of box records, counted from 0.
+pub fn read_box(bytes: &[u8], k: usize) -> BoxAnswer
+    ensures { λ r. ⌜ r ≡ boxAt (now (bytes .entry)) k ⌝ }
+{
+    if k < bytes.len() / 24 {
+        let at = k * 24;
+        return BoxAnswer::Read(box_of(&bytes[at..at + 24]));
+    }
+    BoxAnswer::Short
+}
+
+// Writes r as box record k, counted from 0.
+pub fn write_box(r: BoxRecord, k: usize, out: &mut [u8]) -> Written
+    ensures { λ w. ⌜ WritesBox r k (now (out .entry)) w (now (out .exit)) ⌝ }
+{
+    if k < out.len() / 24 {
+        put_box(out, k * 24, r);
+        return Written::Bytes(24);
+    }
+    Written::Short
+}

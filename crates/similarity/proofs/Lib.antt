@@ -1,0 +1,4 @@
+-- Laws that the proofs of several functions cite.
+pub mod Verdicts
+pub mod Softmax
+pub mod CostLaws

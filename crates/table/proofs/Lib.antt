@@ -1,0 +1,4 @@
+-- Laws that the proofs share. Assumes nothing.
+pub mod Finite
+pub mod Walks
+pub mod Soundness

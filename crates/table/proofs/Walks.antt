@@ -1,0 +1,147 @@
+-- What the stages leave and what their loops know: the tracks passed lie in the front, and those to come are as they were. Assumes nothing.
+use mathlib.Core.Path.{_≡_, refl, sym, ap, _∙_}
+use mathlib.Core.Bool.{true, false}
+use mathlib.Core.List.{List, [], _∷_, _++_, map}
+use Prim.Native.Nat.{ℕ, _+_, _-_, _*_, _≤_, _<_, zero-le}
+use native.Mathlib.Nat.{le-refl, min-eq-right}
+use native.Mathlib.Numerals.{add-one}
+use native.Mathlib.Omega.{arith}
+use lib.ListN.{length, length-replicate, set, replicate}
+use lib.Seq.{set-out, take-at}
+use lib.Ieee.{Float}
+use borrow.Author.Tests.{le-leb, lt-leb}
+use Rattle.laws.specs.Tab.{tab, length-tab, map-tab}
+use Rattle.laws.specs.Kept.{Keeping, keep-start, keep-ahead, keep-on, keep-end}
+use Rattle.laws.specs.Splice.{splice}
+use Rattle.laws.specs.Laid.{laid}
+use Rattle.laws.specs.Records.{laid-filled}
+use Rattle.floats.specs.Single as single
+use Rattle.table.specs.Table.{Track, trackAt, floatsOf, countersOf, capacity, placed, tracks, pushed, young, Laying, Retired, filledUp, Emptied}
+use Rattle.table.specs.Steps.{Kept}
+use Rattle.table.specs.Laws.{Room, tracks-placed, tracks-many, lay-here, lay-none, lay-lengths, same-place, lay-behind, lay-on, lay-set, pushed-room}
+
+-- a part of zeros behind the records
+filled-behind : {A : Type 0} (enc : Track → List A) (s : ℕ) → ((t : Track) → length (enc t) ≡ s) → (ts : List Track) (n places : ℕ) → n ≡ length ts → length ts ≤ places
+    → (nought : A) {l l′ : List A} → l ≡ laid enc s ts l → l′ ≡ splice l (n * s) (replicate (places * s - n * s) nought) → l′ ≡ filledUp enc s nought ts places l
+unfolding filledUp
+filled-behind {A} enc s size ts n places many few nought {l} {l′} here e =
+    let zeros : List A = replicate (places * s - length ts * s) nought in
+    let from : l′ ≡ splice l (length ts * s) zeros = rw many at e in
+    from ∙ ap (λ (m : List A). splice m (length ts * s) zeros) here ∙ laid-filled enc s size ts l zeros places few (length-replicate (places * s - length ts * s) nought)
+
+-- ---- one track
+
+module _ (f : List Float) (c : List ℕ) (held : ℕ) where
+  pub stored : (i : ℕ) (t : Track) {f′ : List Float} {c′ : List ℕ} → i < placed (length f) (length c) held → f′ ≡ splice f (i * 24) (floatsOf t) → c′ ≡ splice c (i * 4) (countersOf t)
+      → Laying f c f′ c′ (set (tracks f c held) i t)
+  stored i t h ef ec = rw (ef, ec) (lay-set (lay-here f c held) i t (rw (tracks-placed f c held) h))
+
+  pub not-stored : (i : ℕ) (t : Track) → placed (length f) (length c) held ≤ i → Laying f c f c (set (tracks f c held) i t)
+  not-stored i t h = rw (set-out (tracks f c held) i t (rw (tracks-placed f c held) h)) (lay-here f c held)
+
+  pub appended : (t : Track) {f′ : List Float} {c′ : List ℕ} → held < capacity (length f) (length c) → f′ ≡ splice f (held * 24) (floatsOf t) → c′ ≡ splice c (held * 4) (countersOf t)
+      → Laying f c f′ c′ (pushed (capacity (length f) (length c)) (tracks f c held) t)
+  appended t h ef ec =
+      let n : length (tracks f c held) ≡ held = tracks-many f c held (omega arith) in
+      rw (ef, ec, pushed-room (capacity (length f) (length c)) (tracks f c held) t (rw n h)) (rw n at (lay-on (lay-here f c held) t))
+
+  pub not-appended : (t : Track) → capacity (length f) (length c) ≤ held → Laying f c f c (pushed (capacity (length f) (length c)) (tracks f c held) t)
+  not-appended t h =
+      let n : length (tracks f c held) ≡ capacity (length f) (length c) = tracks-placed f c held ∙ min-eq-right h in
+      rw (take-at (tracks f c held) (t ∷ []) (capacity (length f) (length c)) n) (lay-here f c held)
+
+  -- the places beyond are zeroed
+  pub emptied : {f′ : List Float} {c′ : List ℕ} {n places : ℕ} → n ≡ placed (length f) (length c) held → places ≡ capacity (length f) (length c)
+      → f′ ≡ splice f (n * 24) (replicate (places * 24 - n * 24) single.zero) → c′ ≡ splice c (n * 4) (replicate (places * 4 - n * 4) 0)
+      → Emptied f c (tracks f c held) f′ c′
+  emptied {f′} {c′} {n} {places} en ep ef ec =
+      let ts : List Track = tracks f c held in
+      let many : n ≡ length ts = en ∙ sym (tracks-placed f c held) in
+      let few : length ts ≤ places = rw (tracks-placed f c held, ep) (omega arith) in
+      let here = lay-here f c held in
+      record {
+        floats = rw (← ep) (filled-behind floatsOf 24 (λ _. refl) ts n places many few single.zero (here .floats) ef);
+        counters = rw (← ep) (filled-behind countersOf 4 (λ _. refl) ts n places many few 0 (here .counters) ec);
+      }
+
+-- ---- every track: those before i are replaced by h 0 .. h (i - 1)
+
+pub record Walking (h : ℕ → Track) (f₀ : List Float) (c₀ : List ℕ) (n : ℕ) (f : List Float) (c : List ℕ) (i : ℕ) : Type 0 where
+  pub room : Room (length f₀) (length c₀) n
+  pub upto : i ≤ n
+  pub laying : Laying f₀ c₀ f c (tab h i)
+  pub same-f : length f ≡ length f₀
+  pub same-c : length c ≡ length c₀
+
+module _ (h : ℕ → Track) (f₀ : List Float) (c₀ : List ℕ) where
+  pub walk-start : {n : ℕ} → Room (length f₀) (length c₀) n → Walking h f₀ c₀ n f₀ c₀ 0
+  unfolding tab
+  walk-start r = record { room = r; upto = zero-le; laying = lay-none f₀ c₀; same-f = refl; same-c = refl }
+
+  module _ {n : ℕ} {f : List Float} {c : List ℕ} {i : ℕ} (w : Walking h f₀ c₀ n f c i) where
+    -- the track that comes next is as it was at the start
+    pub walk-next : trackAt f c i ≡ trackAt f₀ c₀ i
+    walk-next = lay-behind (w .laying) i (rw (length-tab h i) (le-refl i))
+
+    -- h i is stored
+    pub walk-on : {f′ : List Float} {c′ : List ℕ} {t : Track} → i < n → t ≡ h i → f′ ≡ splice f (i * 24) (floatsOf t) → c′ ≡ splice c (i * 4) (countersOf t) → Walking h f₀ c₀ n f′ c′ (i + 1)
+    unfolding tab
+    walk-on {f′} {c′} {t} b e ef ec =
+        let l : Laying f₀ c₀ f′ c′ (tab h i ++ (t ∷ [])) = rw (ef, ec) (rw (length-tab h i) at (lay-on (w .laying) t)) in
+        let k : Laying f₀ c₀ f′ c′ (tab h (i + 1)) = rw add-one (rw e at l) in
+        let in-f = w .room .in-floats in
+        let in-c = w .room .in-counters in
+        let few = w .room .few in
+        let lens = lay-lengths k (rw (length-tab h (i + 1)) (record { few = omega arith; in-floats = omega arith; in-counters = omega arith })) in
+        record { room = w .room; upto = omega arith; laying = k; same-f = lens .0; same-c = lens .1 }
+
+-- each track of the table replaced by g of it
+pub walk-all : (g : Track → Track) (f₀ : List Float) (c₀ : List ℕ) (held n i : ℕ) {f : List Float} {c : List ℕ} → n ≡ placed (length f₀) (length c₀) held
+    → Walking (λ k. g (trackAt f₀ c₀ k)) f₀ c₀ n f c i → n ≤ i → Laying f₀ c₀ f c (map g (tracks f₀ c₀ held))
+unfolding tracks
+walk-all g f₀ c₀ held n i {f} {c} e w h =
+    let z : i ≡ placed (length f₀) (length c₀) held = omega (arith, e, w .upto) in
+    rw (map-tab g (trackAt f₀ c₀) (placed (length f₀) (length c₀) held)) (rw z at (w .laying))
+
+-- ---- those that are young
+
+-- t is the track at place i, as it was loaded
+module _ (f : List Float) (c : List ℕ) (oldest i w : ℕ) {t : Track} (e : t ≡ trackAt f c i) where
+  pub kept-young : {f′ : List Float} {c′ : List ℕ} → t .since ≤ oldest → f′ ≡ splice f (w * 24) (floatsOf t) → c′ ≡ splice c (w * 4) (countersOf t) → Kept oldest i w f c f′ c′ (w + 1)
+  kept-young h ef ec =
+      let b : young oldest (trackAt f c i) ≡ true = rw (← e) (le-leb (t .since) oldest h) in
+      record { count = rw b; floats = rw (b, ← e) ef; counters = rw (b, ← e) ec }
+
+  pub kept-old : oldest < t .since → Kept oldest i w f c f c w
+  kept-old h =
+      let b : young oldest (trackAt f c i) ≡ false = rw (← e) (lt-leb (t .since) oldest h) in
+      record { count = rw b; floats = rw b; counters = rw b }
+
+pub record Retiring (oldest : ℕ) (f₀ : List Float) (c₀ : List ℕ) (n : ℕ) (f : List Float) (c : List ℕ) (w i : ℕ) : Type 0 where
+  pub floats : Keeping floatsOf 24 (young oldest) (trackAt f₀ c₀) f₀ n i w f
+  pub counters : Keeping countersOf 4 (young oldest) (trackAt f₀ c₀) c₀ n i w c
+
+module _ (oldest : ℕ) (f₀ : List Float) (c₀ : List ℕ) (n : ℕ) where
+  pub retire-start : Room (length f₀) (length c₀) n → Retiring oldest f₀ c₀ n f₀ c₀ 0 0
+  retire-start r = record {
+    floats = keep-start floatsOf 24 (young oldest) (trackAt f₀ c₀) f₀ n (r .in-floats);
+    counters = keep-start countersOf 4 (young oldest) (trackAt f₀ c₀) c₀ n (r .in-counters);
+  }
+
+  -- one more is looked at
+  pub retire-on : {f f′ : List Float} {c c′ : List ℕ} {w w′ i : ℕ} → Retiring oldest f₀ c₀ n f c w i → i < n → Kept oldest i w f c f′ c′ w′ → Retiring oldest f₀ c₀ n f′ c′ w′ (i + 1)
+  retire-on {f} {f′} {c} {c′} {w} {w′} {i} k b e =
+      let same : trackAt f c i ≡ trackAt f₀ c₀ i = same-place f f₀ c c₀ i
+      (keep-ahead floatsOf 24 (young oldest) (trackAt f₀ c₀) f₀ n (λ _. refl) (k .floats))
+      (keep-ahead countersOf 4 (young oldest) (trackAt f₀ c₀) c₀ n (λ _. refl) (k .counters)) in
+      record {
+        floats = keep-on floatsOf 24 (young oldest) (trackAt f₀ c₀) f₀ n (λ _. refl) (k .floats) b (rw same at (e .count)) (rw same at (e .floats));
+        counters = keep-on countersOf 4 (young oldest) (trackAt f₀ c₀) c₀ n (λ _. refl) (k .counters) b (rw same at (e .count)) (rw same at (e .counters));
+      }
+
+  pub retire-all : (held : ℕ) {f : List Float} {c : List ℕ} {w i : ℕ} → n ≡ placed (length f₀) (length c₀) held → Retiring oldest f₀ c₀ n f c w i → n ≤ i → Retired f₀ c₀ held oldest f c w
+  unfolding tracks
+  retire-all held e k h =
+      let ef = keep-end floatsOf 24 (young oldest) (trackAt f₀ c₀) f₀ n (k .floats) h in
+      let ec = keep-end countersOf 4 (young oldest) (trackAt f₀ c₀) c₀ n (k .counters) h in
+      record { count = rw e at (ef .0); laying = record { floats = rw e at (ef .1); counters = rw e at (ec .1) } }
