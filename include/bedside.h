@@ -1,4 +1,4 @@
-/* bedside.h: the proved parts of the tracker, for a recorder's firmware in C, C++ or Rust.
+/* bedside.h: the proved tracker, for a recorder's firmware in C, C++ or Rust.
  *
  * Link libbedside.a (rt staticlib bedside), for x86-64 Linux. Nothing is allocated, nothing is kept
  * between calls, and of other code memset alone is called. What a call returns is what the definition
@@ -10,7 +10,7 @@
  * A pointer comes with the number of its elements or points to as many as its type says, is aligned for
  * its type, and may be anything where that number is 0. Slices that are lent together do not overlap. A
  * bool is 0 or 1. Matrices are flat, row by row, a row for each box and a cell for each track. The arrays
- * that a call needs besides are on the stack: at most 32 KiB.
+ * that a call needs besides are on the stack: bedside_update takes 37 KiB of it, every other call at most 16.
  */
 #ifndef BEDSIDE_H
 #define BEDSIDE_H
@@ -130,6 +130,62 @@ bedside_assignment bedside_associate(bedside_associate_params params, size_t box
                                      size_t unmatched_detections_len, size_t *unmatched_tracks,
                                      size_t unmatched_tracks_len, double *work64, size_t work64_len,
                                      float *work32, size_t work32_len);
+
+/* ---- a frame: 11 table not sound, 12 a track that cannot be corrected, 13 a float setting not finite, 14 more
+ * than 255 boxes, 15 table full, 16 a bad box, 17 frame count 2147483647 or more, 18 out too short, 19 a work
+ * slice too short; the lowest that applies is said ---- */
+typedef struct {
+    float det_thresh;
+    float iou_threshold;
+    float lambda_iou;
+    float lambda_mhd;
+    float lambda_shape;
+    float dlo_boost_coef;
+    uint64_t max_age;
+    uint64_t min_hits;
+    bool use_dlo_boost;
+    bool use_duo_boost;
+    bool use_rich_similarity;
+    bool use_shape_similarity_correction;
+    bool use_soft_boost;
+    bool use_varying_threshold;
+} bedside_settings;
+
+/* The Rust's new: lambdas 0.5, 0.25 and 0.25, dlo_boost_coef 0.65; both boosts and the shape similarity
+ * correction on, the other three off. Its with_ options are these fields. */
+bedside_settings bedside_settings_new(float det_thresh, float iou_threshold, uint64_t max_age, uint64_t min_hits);
+
+/* What stands beside the lent table, all 0 before the first frame. */
+typedef struct {
+    uint64_t count; /* held tracks: the first places of the table */
+    uint64_t last_id;
+    uint64_t frame_count;
+} bedside_state;
+
+typedef struct {
+    uint32_t refusal;
+    uint64_t index;      /* with 16: the lowest bad box; 0 otherwise */
+    bedside_state state; /* the new one; where refused, the one given */
+    uint64_t emitted;    /* track records written to out */
+    uint64_t turns;      /* lapjv's, both 0 where it was not called */
+    uint64_t scans;
+} bedside_update_answer;
+
+/* The table: 24 floats and 4 counters for each place, as many places as both slices allow, at most 255; cells
+ * past them are never written. A place's floats are p, v, a, b, c, d for each of x, y, h, r in turn; its
+ * counters are id, time since update, streak, age. Places beyond count may hold anything on entry, and are 0
+ * after an accepted frame. Held tracks and boxes together need as many places, and as many records of out.
+ * boxes: 5 floats each, left, top, width, height, score: all finite, the first four at most 65536 in
+ * magnitude, width and height above 0, score 0 to 1.
+ * out: 32 bytes a record, little-endian: frame count (4 bytes), id (8), then left, top, width, height and
+ * confidence as floats; what is not needed of it is left as it was. A rest of fewer than 5 floats or 32 bytes
+ * is not looked at.
+ * Work slices have at least n * n doubles and 4 * n * n floats, n the larger of held tracks and boxes; after
+ * an accepted frame every lent cell of them is 0. */
+bedside_update_answer bedside_update(bedside_settings settings, bedside_state state, float *floats,
+                                     size_t floats_len, uint64_t *counters, size_t counters_len,
+                                     const float *boxes, size_t boxes_len, uint8_t *out, size_t out_len,
+                                     double *work64, size_t work64_len, float *work32, size_t work32_len);
 
 #ifdef __cplusplus
 }

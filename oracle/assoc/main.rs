@@ -1,26 +1,22 @@
 //! Prints what crates/assoc_vectors has to print: the published assoc.rs, with lapjv.rs and its two counts, on the same
 //! inputs; and for the calls that the port turns down, the numbers of the scope document.
 
+extern crate floats;
+
 #[allow(warnings)]
 mod assoc;
+mod call;
 #[allow(dead_code)]
 mod counters;
 mod error;
-mod floats;
 mod inputs;
 #[allow(warnings)]
 mod lapjv;
 
-use assoc::{AssignmentResult, AssociateParams};
-use inputs::{cells, corners, next, KINDS};
-use nalgebra::DMatrix;
+use call::{Answer, Call, square};
+use inputs::{KINDS, cells, corners, next};
 
-// ---- lent memory
-
-/// What every cell of a lent result slice holds before the call, and of a work slice.
-const LIST: usize = 7777;
-const CELL: f32 = 7.0;
-const WORK: f64 = 1.0;
+// ---- digests
 
 /// The bits of x, of one zero and one NaN.
 fn bits(x: f32) -> u32 {
@@ -59,37 +55,7 @@ impl Digest {
     }
 }
 
-/// A result slice of this length after the call.
-fn lent_list(length: usize, list: &[usize]) -> Vec<usize> {
-    let mut s = vec![LIST; length];
-    s[..list.len()].copy_from_slice(list);
-    s
-}
-
-fn lent_matrix(length: usize, m: &DMatrix<f32>) -> Vec<f32> {
-    let mut s = vec![CELL; length];
-    for i in 0..m.nrows() {
-        for j in 0..m.ncols() {
-            s[i * m.ncols() + j] = m[(i, j)];
-        }
-    }
-    s
-}
-
-/// A work slice after the call: all zero where it was accepted.
-fn lent_work(length: usize, number: u32) -> Vec<f64> {
-    vec![if number == 0 { 0.0 } else { WORK }; length]
-}
-
 // ---- lines
-
-fn head(routine: &str, kind: usize, boxes: usize, tracks: usize) {
-    print!("{routine} {} {boxes} {tracks}", KINDS[kind]);
-}
-
-fn digest(of: Digest) {
-    print!(" {:016x}", of.0);
-}
 
 /// The numbers, where they are at most 20.
 fn list(s: &[usize]) {
@@ -99,231 +65,94 @@ fn list(s: &[usize]) {
     }
 }
 
-fn answer(words: &[u64]) {
-    print!(" |");
-    words.iter().for_each(|k| print!(" {k}"));
+/// Whole where it is lent in at most 10 cells.
+fn matrix(out: &[f32]) {
+    println!(" | {:016x}{}", Digest::new().floats(out).0, if out.len() <= 10 { whole(out) } else { String::new() });
 }
 
-/// A matrix, whole where it is lent in at most 10 cells.
-fn matrix_line(number: u32, out: &[f32]) {
-    answer(&[number as u64]);
-    print!(" |");
-    digest(Digest::new().floats(out));
-    if out.len() <= 10 {
-        print!(" |");
-        out.iter().for_each(|&x| print!(" {:08x}", bits(x)));
+fn whole(out: &[f32]) -> String {
+    format!(" |{}", out.iter().map(|&x| format!(" {:08x}", bits(x))).collect::<String>())
+}
+
+/// The lists as far as they are counted, and the digest of all that was lent.
+fn lists(answer: &Answer) {
+    let counts = if answer.lists.len() == 2 { [1, 1, 0, 0] } else { [1, 1, 2, 3] };
+    for (lent, count) in answer.lists.iter().zip(counts) {
+        list(&lent[..answer.words[count] as usize]);
     }
-    println!();
+    let all = answer.lists.iter().fold(Digest::new(), |sum, lent| sum.numbers(lent));
+    println!(" | {:016x}", all.doubles(&answer.work64).floats(&answer.work32).0);
 }
 
-// ---- the numbers of a refusal
-
-/// The lowest that applies: 31 too many, 32 another size, 33 too short.
-fn refusal(boxes: usize, tracks: usize, other_size: bool, short: bool) -> u32 {
-    if boxes > 255 || tracks > 255 {
-        31
-    } else if other_size {
-        32
-    } else if short {
-        33
-    } else {
-        0
+/// Makes a call and prints its line.
+fn line(kind: usize, call: &Call) {
+    let Call { routine, boxes, tracks, .. } = *call;
+    print!("{} {} {boxes} {tracks}", call::ROUTINES[routine], KINDS[kind]);
+    if routine == call::ASSOCIATE {
+        print!(" {}", call.flags);
     }
+    let all = call.inputs.iter().fold(Digest::new(), |sum, input| sum.floats(input));
+    print!(" {:016x} |", all.0);
+    let answer = call.answer();
+    answer.words.iter().for_each(|k| print!(" {k}"));
+    if routine < call::MATCH { matrix(&answer.out) } else { lists(&answer) }
 }
 
-fn area(boxes: usize, tracks: usize) -> usize {
-    boxes.saturating_mul(tracks)
-}
-
-/// n * n, n the larger side.
-fn square(boxes: usize, tracks: usize) -> usize {
-    let n = boxes.max(tracks);
-    area(n, n)
-}
-
-// ---- the Rust's forms
-
-fn boxes_of(s: &[f32]) -> Vec<[f32; 4]> {
-    s.chunks_exact(4).map(|c| [c[0], c[1], c[2], c[3]]).collect()
-}
-
-fn matrix_of(boxes: usize, tracks: usize, s: &[f32]) -> DMatrix<f32> {
-    let mut m = DMatrix::zeros(boxes, tracks);
-    for i in 0..boxes {
-        for j in 0..tracks {
-            m[(i, j)] = s[i * tracks + j];
-        }
-    }
-    m
-}
-
-// ---- matrices
-
-const OF_CORNERS: [&str; 4] = ["iou_batch", "soft_biou_batch", "shape_similarity_v1", "shape_similarity_v2"];
+// ---- calls
 
 /// Lengths of detections, corners, confidences and out.
 fn measured(routine: usize, kind: usize, boxes: usize, tracks: usize, lengths: [usize; 4]) {
-    let detections = corners(inputs::DETECTIONS, kind, boxes, tracks, lengths[0]);
-    let tracked = corners(inputs::CORNERS, kind, boxes, tracks, lengths[1]);
-    let confidence_kind = inputs::confidence_kind(kind);
-    let confidences = cells(inputs::TRACK_CONFIDENCE, confidence_kind, boxes, tracks, lengths[2]);
-    head(OF_CORNERS[routine], kind, boxes, tracks);
-    digest(Digest::new().floats(&detections).floats(&tracked).floats(&confidences));
-    let unlike = lengths[0] != area(boxes, 4) || lengths[1] != area(tracks, 4) || routine == 1 && lengths[2] != tracks;
-    let number = refusal(boxes, tracks, unlike, lengths[3] < area(boxes, tracks));
-    if number != 0 {
-        return matrix_line(number, &vec![CELL; lengths[3]]);
-    }
-    let (detections, tracked) = (boxes_of(&detections), boxes_of(&tracked));
-    let m = match routine {
-        0 => assoc::iou_batch(&detections, &tracked),
-        1 => assoc::soft_biou_batch(&detections, &tracked, &confidences),
-        2 => assoc::shape_similarity_v1(&detections, &tracked),
-        _ => assoc::shape_similarity_v2(&detections, &tracked),
-    };
-    matrix_line(0, &lent_matrix(lengths[3], &m));
+    let inputs = vec![
+        corners(inputs::DETECTIONS, kind, boxes, tracks, lengths[0]),
+        corners(inputs::CORNERS, kind, boxes, tracks, lengths[1]),
+        cells(inputs::TRACK_CONFIDENCE, inputs::confidence_kind(kind), boxes, tracks, lengths[2]),
+    ];
+    let (floats, lists) = ([0.0; 4], vec![]);
+    line(kind, &Call { routine, boxes, tracks, flags: 0, floats, inputs, out: lengths[3], lists, work: [0, 0] });
 }
 
 /// Lengths of distance and out.
 fn softened(kind: usize, boxes: usize, tracks: usize, lengths: [usize; 2]) {
-    let distance = cells(inputs::DISTANCE, kind, boxes, tracks, lengths[0]);
-    head("mh_dist_similarity", kind, boxes, tracks);
-    digest(Digest::new().floats(&distance));
-    let number = refusal(boxes, tracks, lengths[0] != area(boxes, tracks), lengths[1] < area(boxes, tracks));
-    if number != 0 {
-        return matrix_line(number, &vec![CELL; lengths[1]]);
-    }
-    let m = assoc::mh_dist_similarity(&matrix_of(boxes, tracks, &distance), inputs::temperature(kind, boxes));
-    matrix_line(0, &lent_matrix(lengths[1], &m));
-}
-
-// ---- pairs
-
-fn first(pairs: &[(usize, usize)]) -> Vec<usize> {
-    pairs.iter().map(|p| p.0).collect()
-}
-
-fn second(pairs: &[(usize, usize)]) -> Vec<usize> {
-    pairs.iter().map(|p| p.1).collect()
+    let inputs = vec![cells(inputs::DISTANCE, kind, boxes, tracks, lengths[0])];
+    let floats = [inputs::temperature(kind, boxes), 0.0, 0.0, 0.0];
+    let (routine, out, lists) = (call::SIMILARITY, lengths[1], vec![]);
+    line(kind, &Call { routine, boxes, tracks, flags: 0, floats, inputs, out, lists, work: [0, 0] });
 }
 
 /// Lengths of cost, pair_boxes, pair_tracks and work.
 fn matched(kind: usize, boxes: usize, tracks: usize, lengths: [usize; 4]) {
-    let cost = cells(inputs::COST, kind, boxes, tracks, lengths[0]);
-    head("match_detections", kind, boxes, tracks);
-    digest(Digest::new().floats(&cost));
-    let few = boxes.min(tracks);
-    let short = lengths[1] < few || lengths[2] < few || lengths[3] < square(boxes, tracks);
-    let number = refusal(boxes, tracks, lengths[0] != area(boxes, tracks), short);
-    counters::take();
-    let pairs = match number {
-        0 => assoc::match_detections(&matrix_of(boxes, tracks, &cost), inputs::threshold(kind, boxes)),
-        _ => Vec::new(),
-    };
-    let counts = counters::take();
-    answer(&[number as u64, pairs.len() as u64, counts.turns, counts.scans]);
-    let (of_boxes, of_tracks) = (first(&pairs), second(&pairs));
-    list(&of_boxes);
-    list(&of_tracks);
-    print!(" |");
-    let lists = Digest::new().numbers(&lent_list(lengths[1], &of_boxes)).numbers(&lent_list(lengths[2], &of_tracks));
-    digest(lists.doubles(&lent_work(lengths[3], number)));
-    println!();
-}
-
-/// An assignment, and the digest of its lent slices: pair_boxes, pair_tracks, the two unmatched lists, and more.
-fn assignment_line(number: u32, result: &AssignmentResult, lengths: &[usize], more: impl Fn(Digest) -> Digest) {
-    let counts = counters::take();
-    let (of_boxes, of_tracks) = (first(&result.matches), second(&result.matches));
-    let lists = [&of_boxes, &of_tracks, &result.unmatched_detections, &result.unmatched_tracks];
-    let lengths_of = [1, 2, 3].map(|k| lists[k].len() as u64);
-    answer(&[&[number as u64], &lengths_of[..], &[counts.turns, counts.scans]].concat());
-    lists.iter().for_each(|s| list(s));
-    let all = lists.iter().zip(lengths).fold(Digest::new(), |sum, (s, &length)| sum.numbers(&lent_list(length, s)));
-    print!(" |");
-    digest(more(all));
-    println!();
-}
-
-const NOTHING: AssignmentResult =
-    AssignmentResult { matches: vec![], unmatched_detections: vec![], unmatched_tracks: vec![] };
-
-/// Whether one of the four lists is too short; their lengths as in `assignment_line`.
-fn lists_short(boxes: usize, tracks: usize, lengths: &[usize]) -> bool {
-    let few = boxes.min(tracks);
-    lengths[0] < few || lengths[1] < few || lengths[2] < boxes || lengths[3] < tracks
+    let inputs = vec![cells(inputs::COST, kind, boxes, tracks, lengths[0])];
+    let floats = [inputs::threshold(kind, boxes), 0.0, 0.0, 0.0];
+    let (routine, lists, work) = (call::MATCH, lengths[1..3].to_vec(), [lengths[3], 0]);
+    line(kind, &Call { routine, boxes, tracks, flags: 0, floats, inputs, out: 0, lists, work });
 }
 
 /// Lengths of iou, cost, the four lists and work.
 fn assigned(kind: usize, boxes: usize, tracks: usize, lengths: [usize; 7]) {
-    let iou = cells(inputs::IOU, kind, boxes, tracks, lengths[0]);
-    let cost = cells(inputs::COST, kind, boxes, tracks, lengths[1]);
-    head("linear_assignment", kind, boxes, tracks);
-    digest(Digest::new().floats(&iou).floats(&cost));
-    let unlike = lengths[0] != area(boxes, tracks) || lengths[1] != area(boxes, tracks);
-    let short = lists_short(boxes, tracks, &lengths[2..6]) || lengths[6] < square(boxes, tracks);
-    let number = refusal(boxes, tracks, unlike, short);
-    counters::take();
-    let result = match number {
-        0 => {
-            let (iou, cost) = (matrix_of(boxes, tracks, &iou), matrix_of(boxes, tracks, &cost));
-            assoc::linear_assignment(&iou, &cost, inputs::threshold(kind, boxes), None)
-        }
-        _ => NOTHING,
-    };
-    let work = lent_work(lengths[6], number);
-    assignment_line(number, &result, &lengths[2..6], |lists| lists.doubles(&work));
-}
-
-/// The flags: 1 distances, 2 confidences, 4 the corrected shape.
-fn params(kind: usize, boxes: usize, flags: usize) -> AssociateParams {
-    AssociateParams {
-        iou_threshold: inputs::threshold(kind, boxes),
-        lambda_iou: inputs::weight(kind, boxes, 0, 0.5),
-        lambda_mhd: inputs::weight(kind, boxes, 1, 0.25),
-        lambda_shape: inputs::weight(kind, boxes, 2, 0.25),
-        use_shape_similarity_correction: flags / 4 % 2 == 1,
-    }
+    let inputs = vec![
+        cells(inputs::IOU, kind, boxes, tracks, lengths[0]),
+        cells(inputs::COST, kind, boxes, tracks, lengths[1]),
+    ];
+    let floats = [inputs::threshold(kind, boxes), 0.0, 0.0, 0.0];
+    let (routine, lists, work) = (call::ASSIGN, lengths[2..6].to_vec(), [lengths[6], 0]);
+    line(kind, &Call { routine, boxes, tracks, flags: 0, floats, inputs, out: 0, lists, work });
 }
 
 /// Lengths of detections, corners, distances, the confidences of tracks and of boxes, the four lists and both work
 /// slices.
 fn associated(kind: usize, boxes: usize, tracks: usize, flags: usize, lengths: [usize; 11]) {
-    let detections = corners(inputs::DETECTIONS, kind, boxes, tracks, lengths[0]);
-    let tracked = corners(inputs::CORNERS, kind, boxes, tracks, lengths[1]);
-    let distance_kind = inputs::distance_kind(kind, boxes);
-    let distance = cells(inputs::DISTANCE, distance_kind, boxes, tracks, lengths[2]);
     let confidence_kind = inputs::confidence_kind(kind);
-    let of_tracks = cells(inputs::TRACK_CONFIDENCE, confidence_kind, boxes, tracks, lengths[3]);
-    let of_boxes = cells(inputs::DETECTION_CONFIDENCE, confidence_kind, boxes, tracks, lengths[4]);
-    head("associate", kind, boxes, tracks);
-    print!(" {flags}");
-    let all = Digest::new().floats(&detections).floats(&tracked).floats(&distance);
-    digest(all.floats(&of_tracks).floats(&of_boxes));
-
-    let (has_distance, has_confidence) = (flags % 2 == 1, flags / 2 % 2 == 1);
-    let unlike = lengths[0] != area(boxes, 4)
-        || lengths[1] != area(tracks, 4)
-        || has_distance && lengths[2] != area(boxes, tracks)
-        || has_confidence && (lengths[3] != tracks || lengths[4] != boxes);
-    let cells = square(boxes, tracks);
-    let short = lists_short(boxes, tracks, &lengths[5..9]) || lengths[9] < cells || lengths[10] < area(cells, 4);
-    let number = refusal(boxes, tracks, unlike, short);
-    counters::take();
-    let result = match number {
-        0 => assoc::associate(
-            &boxes_of(&detections),
-            &boxes_of(&tracked),
-            &params(kind, boxes, flags),
-            has_distance.then(|| matrix_of(boxes, tracks, &distance)).as_ref(),
-            has_confidence.then_some(&of_tracks[..]),
-            has_confidence.then_some(&of_boxes[..]),
-        ),
-        _ => NOTHING,
-    };
-    let work = lent_work(lengths[9], number);
-    let work_floats: Vec<f32> = lent_work(lengths[10], number).iter().map(|&x| x as f32).collect();
-    assignment_line(number, &result, &lengths[5..9], |lists| lists.doubles(&work).floats(&work_floats));
+    let inputs = vec![
+        corners(inputs::DETECTIONS, kind, boxes, tracks, lengths[0]),
+        corners(inputs::CORNERS, kind, boxes, tracks, lengths[1]),
+        cells(inputs::DISTANCE, inputs::distance_kind(kind, boxes), boxes, tracks, lengths[2]),
+        cells(inputs::TRACK_CONFIDENCE, confidence_kind, boxes, tracks, lengths[3]),
+        cells(inputs::DETECTION_CONFIDENCE, confidence_kind, boxes, tracks, lengths[4]),
+    ];
+    let weight = |which: u64, usual: f32| inputs::weight(kind, boxes, which, usual);
+    let floats = [inputs::threshold(kind, boxes), weight(0, 0.5), weight(1, 0.25), weight(2, 0.25)];
+    let (routine, lists, work) = (call::ASSOCIATE, lengths[5..9].to_vec(), [lengths[9], lengths[10]]);
+    line(kind, &Call { routine, boxes, tracks, flags, floats, inputs, out: 0, lists, work });
 }
 
 // ---- the calls that are accepted

@@ -113,8 +113,13 @@ fn cell(kind: &str, n: usize, i: usize, j: usize, r: u64) -> f64 {
 
 /// The matrix of a kind and a side, row by row.
 pub fn matrix(kind: &str, n: usize) -> Vec<f64> {
+    seeded(kind, n, 0)
+}
+
+/// The same with other random numbers, but for seed 0, which has those of the vectors.
+pub fn seeded(kind: &str, n: usize, seed: u64) -> Vec<f64> {
     let number = KINDS.iter().position(|&name| name == kind).expect("a kind") as u64;
-    let mut r = next(88172645463325252 ^ ((n as u64) << 8) ^ number);
+    let mut r = next(88172645463325252 ^ ((n as u64) << 8) ^ number ^ seed);
     (0..n * n)
         .map(|k| {
             r = next(r);

@@ -2,9 +2,8 @@
 use mathlib.Core.Path.{_≡_, refl, sym, ap, _∙_}
 use mathlib.Core.List.{List, [], _∷_, _++_, append-nil}
 use mathlib.Core.Bool.{Bool, true, false, cond, not, _||_}
-use Prim.Native.Nat.{ℕ, zero, suc, _+_, _≤_, _<_, zero-le}
+use Prim.Native.Nat.{ℕ, zero, suc, _+_, _≤_, _<_}
 use native.Mathlib.Nat.{le-refl}
-use native.Mathlib.Numerals.{add-one}
 use native.Mathlib.Omega.{arith}
 use lib.Dec.{ltb, eqb}
 use lib.ListN.{length, getD, set, length-set}
@@ -14,11 +13,10 @@ use Rattle.laws.specs.Tab.{tab, tab-at, tab-of, length-tab, indices}
 use Rattle.laws.specs.Sieve.{sieve, sieve-more, maybe}
 use Rattle.laws.specs.Elem.{elem, elem-append}
 use Rattle.laws.specs.Joined.{joined-none}
-use Rattle.laws.specs.Over.{Pushed, push-start, push-maybe}
 use Rattle.assoc.specs.Matching.{Pair, boxesOf, tracksOf}
 use Rattle.assoc.specs.Assignment.{unmatched}
 use Rattle.assoc.specs.MatchSteps.{pairsOf, Clean}
-use Rattle.assoc.specs.AssignmentSteps.{Mark, Marked, Push}
+use Rattle.assoc.specs.AssignmentSteps.{Mark, Marked}
 use Rattle.assoc.proofs.PairLaws.{paired, map-pairs}
 
 -- ---- marked
@@ -69,36 +67,6 @@ module _ (m : ℕ) (f : ℕ → ℕ) (n : ℕ) where
   }
 
 -- ---- unmarked
-
--- at place i, k of the places before it being pushed
-pub record Collecting (p : ℕ → Bool) (out₀ : List ℕ) (n i k : ℕ) (out : List ℕ) : Type 0 where
-  pub upto : i ≤ n
-  pub few : k ≤ i
-  pub pushed : Pushed out₀ (sieve p (indices i)) k out
-
-module _ (p : ℕ → Bool) (out₀ : List ℕ) (n : ℕ) where
-  pub collect-start : Collecting p out₀ n 0 0 out₀
-  unfolding sieve tab
-  collect-start = record { upto = zero-le; few = zero-le; pushed = push-start out₀ }
-
-  pub collect-on : {i k r : ℕ} {b : Bool} {out out′ : List ℕ} → Collecting p out₀ n i k out → i < n → n ≤ length out₀ → b ≡ p i → Push b k i out r out′ → Collecting p out₀ n (i + 1) r out′
-  unfolding sieve tab
-  collect-on {i} {k} {r} {b} {out} {out′} w h l e s = record {
-    upto = omega arith;
-    few = more b (s .many);
-    pushed = rw (add-one i) (rw (sieve-more p (indices i) i, sym e) (spread b (push-maybe out₀ b i (w .pushed) (λ q. omega (arith, w .few)) (s .many) (s .cells))));
-  }
-    where
-      more : (v : Bool) → r ≡ cond v (k + 1) k → r ≤ i + 1
-      more true q = omega (arith, w .few)
-      more false q = omega (arith, w .few)
-
-      spread : (v : Bool) → Pushed out₀ (sieve p (indices i) ++ maybe v i) r out′ → Pushed out₀ (cond v (sieve p (indices i) ++ (i ∷ [])) (sieve p (indices i))) r out′
-      spread true q = q
-      spread false q = rw (append-nil (sieve p (indices i))) at q
-
-  pub collect-end : {i k : ℕ} {out : List ℕ} → Collecting p out₀ n i k out → n ≤ i → Pushed out₀ (sieve p (indices n)) k out
-  collect-end {i} w h = let e : i ≡ n = omega (arith, w .upto) in rw e at (w .pushed)
 
 sieve-ext : (p q : ℕ → Bool) (n k : ℕ) → k ≤ n → ((i : ℕ) → i < n → p i ≡ q i) → sieve p (indices k) ≡ sieve q (indices k)
 unfolding sieve tab

@@ -44,11 +44,6 @@ pub record Marked (ps : List Pair) (n m : ℕ) (boxes tracks : List Bool) : Type
 
 -- ---- the unmatched
 
--- a number pushed, or not
-pub record Push (b : Bool) (k j : ℕ) (out : List ℕ) (r : ℕ) (out′ : List ℕ) : Type 0 where
-  pub many : r ≡ cond b (k + 1) k
-  pub cells : out′ ≡ cond b (set out k j) out
-
 -- of the pairs ps, of which those with ok stand
 abbrev pub leftBoxes : (Pair → Bool) → List Pair → ℕ → List ℕ
 leftBoxes ok ps n = unmatched (boxesOf ps) n ++ boxesOf (sieve (λ p. not (ok p)) ps)

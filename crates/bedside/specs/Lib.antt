@@ -2,3 +2,4 @@
 pub mod Lapjv
 pub mod Filter
 pub mod Pairs
+pub mod Frame

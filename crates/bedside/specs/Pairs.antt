@@ -1,4 +1,4 @@
--- The pairs of include/bedside.h: a verdict as the scope document's number; `bedside_matched` and `bedside_assignment`, answers as that number and the counts; and `bedside_associate_params`.
+-- The pairs of include/bedside.h: a verdict as the scope document's number; `bedside_matched` and `bedside_assignment`, answers as that number and the counts.
 use mathlib.Core.Path.{_≡_}
 use mathlib.Core.List.{List}
 use Prim.Native.Nat.{ℕ}
@@ -14,7 +14,6 @@ use Rattle.assoc.specs.declared.matching.MatchAnswer.{MatchAnswer}
 use Rattle.assoc.specs.declared.assignment.AssignmentAnswer.{AssignmentAnswer}
 use Rattle.bedside.specs.declared.pairs.Matched.{Matched}
 use Rattle.bedside.specs.declared.pairs.Assignment.{Assignment}
-use Rattle.bedside.specs.declared.pairs.Params.{Params}
 
 -- r is the number of the verdict v, and the slice is as a call with this verdict leaves it
 pub record MatrixInC (v : Verdict) (cell : ℕ → ℕ → Float) (boxes tracks : ℕ) (out : List Float) (r : ℕ) (out′ : List Float) : Type 0 where
@@ -40,10 +39,6 @@ pub record AssignmentInC (boxes tracks : ℕ) (iou cost : List Float) (threshold
   pub answer : AssignmentAnswer
   pub given : r ≡ assignmentInC answer
   pub ends : AssignmentEnds boxes tracks iou cost threshold pairBoxes pairTracks unmatchedDetections unmatchedTracks work answer pairBoxes′ pairTracks′ unmatchedDetections′ unmatchedTracks′ work′
-
-abbrev pub paramsOf : Params → AssociateParams
-paramsOf p =
-    record { «iou_threshold» = p .«iou_threshold»; «lambda_iou» = p .«lambda_iou»; «lambda_mhd» = p .«lambda_mhd»; «lambda_shape» = p .«lambda_shape»; «use_shape_similarity_correction» = p .«use_shape_similarity_correction»; «has_mahalanobis» = p .«has_mahalanobis»; «has_confidence» = p .«has_confidence» }
 
 -- r is in C's form what `associate` answers, and the slices are as it leaves them
 pub record AssociateInC (params : AssociateParams) (boxes tracks : ℕ) (detections corners mahalanobis trackConfidence detectionConfidence : List Float) (pairBoxes pairTracks unmatchedDetections unmatchedTracks : List ℕ) (work64 work32 : List Float)

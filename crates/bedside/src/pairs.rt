@@ -11,7 +11,7 @@ ghost use Rattle.similarity.specs.Sizes.{ofCorners, ofConfidences, ofDistances}
 ghost use Rattle.similarity.specs.Overlap.{iouBatch, softBiouBatch};
 ghost use Rattle.similarity.specs.Shape.{shapeSimilarityV1, shapeSimilarityV2};
 ghost use Rattle.similarity.specs.Mahalanobis.{mhDistSimilarity};
-ghost use Rattle.bedside.specs.Pairs.{MatrixInC, matchedInC, MatchInC, assignmentInC, AssignmentInC, paramsOf, AssociateInC};
+ghost use Rattle.bedside.specs.Pairs.{MatrixInC, matchedInC, MatchInC, assignmentInC, AssignmentInC, AssociateInC};
 
 #[repr(C)]
 pub struct Matched {
@@ -29,17 +29,6 @@ pub struct Assignment {
     pub tracks: u64,
     pub turns: u64,
     pub scans: u64,
-}
-
-#[repr(C)]
-pub struct Params {
-    pub iou_threshold: f32,
-    pub lambda_iou: f32,
-    pub lambda_mhd: f32,
-    pub lambda_shape: f32,
-    pub use_shape_similarity_correction: bool,
-    pub has_mahalanobis: bool,
-    pub has_confidence: bool,
 }
 
 // ---- answers
@@ -228,23 +217,9 @@ pub extern "C" fn bedside_linear_assignment(
     ))
 }
 
-fn params_of(p: Params) -> AssociateParams
-    ensures { λ r. ⌜ r ≡ paramsOf p ⌝ }
-{
-    AssociateParams {
-        iou_threshold: p.iou_threshold,
-        lambda_iou: p.lambda_iou,
-        lambda_mhd: p.lambda_mhd,
-        lambda_shape: p.lambda_shape,
-        use_shape_similarity_correction: p.use_shape_similarity_correction,
-        has_mahalanobis: p.has_mahalanobis,
-        has_confidence: p.has_confidence,
-    }
-}
-
 #[no_mangle]
 pub extern "C" fn bedside_associate(
-    params: Params,
+    params: AssociateParams,
     boxes: usize,
     tracks: usize,
     detections: &[f32],
@@ -259,12 +234,12 @@ pub extern "C" fn bedside_associate(
     work64: &mut [f64],
     work32: &mut [f32],
 ) -> Assignment
-    ensures { λ r. ⌜ AssociateInC (paramsOf params) boxes tracks (now (detections .entry)) (now (corners .entry)) (now (mahalanobis .entry)) (now («track_confidence» .entry)) (now («detection_confidence» .entry))
+    ensures { λ r. ⌜ AssociateInC params boxes tracks (now (detections .entry)) (now (corners .entry)) (now (mahalanobis .entry)) (now («track_confidence» .entry)) (now («detection_confidence» .entry))
         (now («pair_boxes» .entry)) (now («pair_tracks» .entry)) (now («unmatched_detections» .entry)) (now («unmatched_tracks» .entry)) (now (work64 .entry)) (now (work32 .entry))
         r (now («pair_boxes» .exit)) (now («pair_tracks» .exit)) (now («unmatched_detections» .exit)) (now («unmatched_tracks» .exit)) (now (work64 .exit)) (now (work32 .exit)) ⌝ }
 {
     of_assignment(assoc::associate(
-        params_of(params),
+        params,
         boxes,
         tracks,
         detections,

@@ -12,7 +12,7 @@ use lib.ListN.{length, getD, take, drop}
 use lib.Ieee.{Float, nan, lt}
 use Rattle.laws.specs.Tab.{tab, tab-at, tab-ext, length-tab}
 use Rattle.laws.specs.Fold.{fold-ext}
-use Rattle.laws.specs.Scan.{lowest}
+use Rattle.laws.specs.Scan.{scan-ext, lowest}
 use Rattle.laws.specs.Grid.{grid, cellAt, grid-at}
 use Rattle.floats.specs.Pick.{larger}
 use Rattle.floats.specs.Single.{zero as 0·0, one}
@@ -25,7 +25,6 @@ use Rattle.similarity.specs.declared.refusal.Verdict.the-variants.{Accepted, Re
 use Rattle.similarity.specs.Sizes.{after}
 use Rattle.boosts.specs.declared.dlo.DloSettings.{DloSettings}
 use Rattle.boosts.specs.Dlo.{similarity, threshold, maxS, coefficient, soft, shouldBoost, varying, boosted, dloConfidenceBoost}
-use Rattle.boosts.specs.Laws.{scan-ext}
 use Rattle.boosts.specs.Steps.{shapeRow, third, rowSimilarity, mostOf, softened, varied, rowScore, boostedScore, mhdLeft}
 use Rattle.boosts.proofs.RowLaws.{one-iou, one-soft, one-v1, one-v2}
 

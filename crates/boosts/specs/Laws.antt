@@ -1,17 +1,16 @@
 -- What the layer above wants of the definitions: states that were gathered from the trackers give the Rust's matrix, and over a matrix that a stage stored a boost is that of the stage's cells. Assumes nothing.
 use mathlib.Core.Path.{_≡_, refl, sym, ap, _∙_}
-use mathlib.Core.Bool.{Bool, cond, _||_}
+use mathlib.Core.Bool.{cond, _||_}
 use mathlib.Core.List.{List}
-use Prim.Native.Nat.{ℕ, zero, suc, _+_, _*_, _<_}
+use Prim.Native.Nat.{ℕ, _*_, _<_}
 use native.Mathlib.Nat.{zero-add}
-use native.Mathlib.Omega.{arith}
 use lib.Dec.{eqb}
 use lib.ListN.{getD, drop}
 use lib.Seq.{getD-take, getD-drop}
 use lib.Ieee.{Float, nan, lt}
 use Rattle.laws.specs.Tab.{tab-ext}
 use Rattle.laws.specs.Fold.{fold-ext}
-use Rattle.laws.specs.Scan.{scan, lowest}
+use Rattle.laws.specs.Scan.{scan-ext, lowest}
 use Rattle.laws.specs.Packed.{packed, packed-at}
 use Rattle.laws.specs.Grid.{grid, cellAt, grid-at, grid-ext}
 use Rattle.laws.specs.Picked.{picked-ext}
@@ -43,11 +42,6 @@ mh-gathered detections trackers l k out boxes tracks =
     (λ i j hi hj. fold-ext _ _ 0·0 4 (λ dist d b. rw (stored (λ m. getKfState (trackers m)) l tracks j d hj b, stored (λ m. reciprocals (getKfCovarianceDiag (trackers m))) k tracks j d hj b)))
 
 -- ---- dlo_confidence_boost
-
-pub scan-ext : (p r : ℕ → Bool) (k n : ℕ) → ((j : ℕ) → j < k + n → p j ≡ r j) → scan p k n ≡ scan r k n
-unfolding scan
-scan-ext p r k zero e = refl
-scan-ext p r k (suc n) e = rw (e k (omega arith), scan-ext p r (suc k) n (λ j h. e j (omega arith)))
 
 -- the similarity of the distances is of the matrix's own cells alone
 shared-ext : (f g : ℕ → ℕ → Float) (boxes tracks i j : ℕ) → ((i j : ℕ) → i < boxes → j < tracks → f i j ≡ g i j) → i < boxes → j < tracks → shared f one boxes i j ≡ shared g one boxes i j

@@ -9,6 +9,7 @@ use native.Mathlib.Omega.{arith}
 use lib.ListN.{length, getD, drop, drop-of-length-le}
 use lib.Seq.{drop-cons}
 use Rattle.laws.specs.Tests.{and-left, and-right}
+use Rattle.laws.specs.Sieve.{sieve}
 use Rattle.laws.specs.Scan.{scan, lowest}
 use Rattle.laws.specs.Tab.{tab, length-tab, tab-at}
 
@@ -31,6 +32,20 @@ module _ {X : Type 0} (p : X → Bool) where
   unfolding every
   every-append [] ys = refl
   every-append (x ∷ xs) ys = ap (λ (b : Bool). p x && b) (every-append xs ys) ∙ sym (and-assoc (p x) (every xs) (every ys))
+
+  pub every-of : (xs : List X) (d : X) → ((i : ℕ) → i < length xs → p (getD xs i d) ≡ true) → every xs ≡ true
+  unfolding every
+  every-of [] d h = refl
+  every-of (x ∷ xs) d h = rw (h zero (omega arith), every-of xs d (λ i b. h (suc i) (omega arith)))
+
+  pub every-sieve : (q : X → Bool) (xs : List X) → every xs ≡ true → every (sieve q xs) ≡ true
+  unfolding every sieve
+  every-sieve q [] e = refl
+  every-sieve q (x ∷ xs) e = by-cases (q x) (every-sieve q xs (and-right (p x) (every xs) e))
+    where
+      by-cases : (b : Bool) → every (sieve q xs) ≡ true → every (cond b (x ∷ sieve q xs) (sieve q xs)) ≡ true
+      by-cases true r = rw (and-left (p x) (every xs) e) r
+      by-cases false r = r
 
 module _ {S X : Type 0} (ok : S → X → Bool) (next : S → X → S) where
   -- s is what the elements before left

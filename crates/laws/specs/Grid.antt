@@ -9,7 +9,7 @@ use lib.Seq.{getD-take, getD-drop}
 use borrow.Rule.Slice.PartMut.{putMid, mid-len}
 use Rattle.laws.specs.Tab.{tab, tab-at, tab-ext, length-tab}
 use Rattle.laws.specs.Splice.{splice, mid-splice}
-use Rattle.laws.specs.Packed.{packed, packed-none, packed-more, packed-at, packed-rest, packed-kept, packed-ext, length-packed}
+use Rattle.laws.specs.Packed.{packed, packed-none, packed-more, packed-at, packed-rest, packed-kept, packed-ext, packed-front, length-packed}
 
 pub row-next : (i m : ℕ) → (i + 1) * m ≡ i * m + m
 row-next i m = add-mul i 1 m ∙ ap (λ (k : ℕ). i * m + k) (one-mul m)
@@ -48,6 +48,10 @@ module _ {A : Type 0} where
     -- a matrix that takes up the whole list
     pub grid-whole : length l ≡ n * m → grid f n m l ≡ grid f n m []
     grid-whole e = packed-kept (λ i. tab (f i) m) m l [] n (drop-of-length-le l (le-of-eq e) ∙ sym (drop-of-length-le [] {i = n * m} zero-le))
+
+    -- the matrix alone, read back
+    pub grid-front : take (n * m) (grid f n m l) ≡ grid f n m []
+    grid-front = packed-front (λ i. tab (f i) m) m l (λ i. length-tab (f i) m) n
 
     -- matrices whose cells agree
     pub grid-ext : (g : ℕ → ℕ → A) → ((i j : ℕ) → i < n → j < m → f i j ≡ g i j) → grid f n m l ≡ grid g n m l

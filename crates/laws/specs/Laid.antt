@@ -5,7 +5,7 @@ use Prim.Native.Nat.{ℕ, zero, suc, _+_, _-_, _*_, _≤_, _<_}
 use native.Mathlib.Nat.{not-suc-le-zero, le-of-suc-le-suc, suc-mul, zero-mul, add-mul, one-mul, add-comm}
 use native.Mathlib.Omega.{arith}
 use lib.ListN.{length, getD, take, drop, length-append, length-drop}
-use lib.Seq.{take-at, drop-at, drop-drop}
+use lib.Seq.{take-at, drop-at, drop-drop, drop-length}
 use Rattle.laws.specs.Splice.{splice}
 
 module _ {X A : Type 0} (enc : X → List A) where
@@ -31,6 +31,11 @@ module _ {X A : Type 0} (enc : X → List A) where
   pub laid-kept : (s : ℕ) (xs : List X) (l k : List A) → drop (length xs * s) l ≡ drop (length xs * s) k → laid s xs l ≡ laid s xs k
   unfolding laid
   laid-kept s xs l k e = ap (λ (r : List A). rows xs ++ r) e
+
+  -- records that fill a list
+  pub laid-whole : (s : ℕ) (xs : List X) (l : List A) → length l ≡ length xs * s → laid s xs l ≡ rows xs
+  unfolding laid
+  laid-whole s xs l e = rw (← e, drop-length l) (append-nil (rows xs))
 
   module _ (s : ℕ) (size : (x : X) → length (enc x) ≡ s) where
     pub length-rows : (xs : List X) → length (rows xs) ≡ length xs * s

@@ -47,6 +47,14 @@ lesser-greatest a b k h l = by-cases (ltb a b)
     by-cases true = h
     by-cases false = l
 
+pub lesser-left : (a b : ℕ) → lesser a b ≤ a
+unfolding lesser
+lesser-left a b = by-cases (ltb a b) refl
+  where
+    by-cases : (v : Bool) → ltb a b ≡ v → cond v a b ≤ a
+    by-cases true e = le-refl a
+    by-cases false e = ltb-false a b e
+
 -- the largest of f 0 .. f (n - 1), and 0
 unfoldable pub most : (ℕ → ℕ) → ℕ → ℕ
 most f zero = 0

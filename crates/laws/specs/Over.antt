@@ -6,8 +6,8 @@ use Prim.Native.Nat.{ℕ, suc, _+_, _-_, _≤_, _<_}
 use native.Mathlib.Nat.{le-of-eq}
 use native.Mathlib.Numerals.{add-one}
 use native.Mathlib.Omega.{arith}
-use lib.ListN.{length, getD, set, take, drop, length-append, length-drop, take-append-drop, drop-of-length-le, List·getD-append}
-use lib.Seq.{drop-cons, set-at, append-snoc, drop-at, drop-drop, take-at, take-all}
+use lib.ListN.{length, getD, set, take, drop, length-append, length-drop, take-append-drop, drop-of-length-le}
+use lib.Seq.{drop-cons, set-at, append-snoc, drop-at, drop-drop, take-at, take-all, getD-append-add, getD-drop}
 use borrow.Rule.Slice.PartMut.{putMid}
 use Rattle.laws.specs.Sieve.{maybe}
 
@@ -24,11 +24,6 @@ module _ {A : Type 0} where
   unfolding over
   length-over xs l h = simp (length-append, length-drop) (omega arith)
 
-  -- an element of the front
-  pub over-at : (xs l : List A) (i : ℕ) (d : A) → i < length xs → getD (over xs l) i d ≡ getD xs i d
-  unfolding over
-  over-at xs l i d h = List·getD-append xs (drop (length xs) l) d i h
-
   -- one more is pushed
   over-more : (xs l : List A) (x : A) → length xs < length l → set (over xs l) (length xs) x ≡ over (xs ++ (x ∷ [])) l
   unfolding over
@@ -41,9 +36,17 @@ module _ {A : Type 0} where
   unfolding over
   over-over xs ys l = rw (length-append xs ys, drop-drop) (sym (append-assoc xs ys (drop (length xs + length ys) l)))
 
-  over-take : (xs l : List A) → take (length xs) (over xs l) ≡ xs
+  -- what was pushed, read back
+  pub over-front : (xs l : List A) (n : ℕ) → n ≡ length xs → take n (over xs l) ≡ xs
   unfolding over
-  over-take xs l = take-at xs (drop (length xs) l) (length xs) refl
+  over-front xs l n e = take-at xs (drop (length xs) l) n (sym e)
+
+  -- what lies behind the pushed is as it was
+  pub over-past : (xs l : List A) (i : ℕ) (d : A) → length xs ≤ i → getD (over xs l) i d ≡ getD l i d
+  unfolding over
+  over-past xs l i d h =
+      let e : length xs + (i - length xs) ≡ i = omega arith in
+      rw e at (getD-append-add xs (drop (length xs) l) (i - length xs) d ∙ getD-drop (length xs) l (i - length xs) d)
 
   over-drop : (xs l : List A) → drop (length xs) (over xs l) ≡ drop (length xs) l
   unfolding over
@@ -86,7 +89,7 @@ module _ {A : Type 0} where
   push-tail {l} {xs} {ys} {out} {part} {k} {r} w v′ =
       let v = rw (tail-part out k) at v′ in
       let m = w .many in
-      let a : take k out ≡ xs = rw (w .cells, m) (over-take xs l) in
+      let a : take k out ≡ xs = rw (w .cells) (over-front xs l k m) in
       let b : drop k out ≡ drop (length xs) l = rw (w .cells, m) (over-drop xs l) in
       let e : take k out ++ part ≡ over (xs ++ ys) l = rw a (ap (λ (p : List A). xs ++ p) (v .cells ∙ ap (over ys) b) ∙ over-over xs ys l) in
       let n : k + r ≡ length (xs ++ ys) = rw (m, v .many) (sym (length-append xs ys)) in

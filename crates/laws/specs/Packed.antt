@@ -1,13 +1,14 @@
 -- Records given by their index, laid over the front of a list: what a loop that stores one record a turn leaves. Assumes nothing.
-use mathlib.Core.Path.{_≡_, refl, sym, ap, _∙_}
-use mathlib.Core.List.{List}
-use Prim.Native.Nat.{ℕ, suc, _+_, _*_, _≤_, _<_}
+use mathlib.Core.Path.{_≡_, sym, ap, _∙_}
+use mathlib.Core.List.{List, [], _++_, append-nil}
+use Prim.Native.Nat.{ℕ, _+_, _*_, _≤_, _<_, zero-le}
 use native.Mathlib.Nat.{le-refl}
 use native.Mathlib.Numerals.{add-one}
-use lib.ListN.{length, take, drop}
+use lib.ListN.{length, take, drop, drop-of-length-le}
+use lib.Seq.{take-at}
 use Rattle.laws.specs.Tab.{tab, length-tab, tab-at, tab-ext, map-tab, indices}
 use Rattle.laws.specs.Splice.{splice}
-use Rattle.laws.specs.Laid.{rows, rows-map, laid, laid-none, laid-more, laid-rest, laid-at, laid-kept, length-laid}
+use Rattle.laws.specs.Laid.{rows, rows-map, length-rows, laid, laid-none, laid-more, laid-rest, laid-at, laid-kept, laid-whole, length-laid}
 
 module _ {A : Type 0} (f : ℕ → List A) (s : ℕ) (l : List A) where
   -- l, with its front replaced by the records f 0 .. f (k - 1), each of s elements
@@ -42,10 +43,22 @@ pub packed-kept : {A : Type 0} (f : ℕ → List A) (s : ℕ) (l k : List A) (n 
 unfolding packed
 packed-kept f s l k n e = laid-kept f s (indices n) l k (rw length-tab e)
 
+-- the records alone, read back
+pub packed-front : {A : Type 0} (f : ℕ → List A) (s : ℕ) (l : List A) (size : (i : ℕ) → length (f i) ≡ s) (n : ℕ) → take (n * s) (packed f s l n) ≡ packed f s [] n
+unfolding packed laid
+packed-front {A} f s l size n =
+    let k : length (rows f (indices n)) ≡ n * s = length-rows f s size (indices n) ∙ ap (λ (j : ℕ). j * s) (length-tab (λ i. i) n) in
+    take-at (rows f (indices n)) _ (n * s) k
+    ∙ sym (ap (λ (r : List A). rows f (indices n) ++ r) (drop-of-length-le [] {i = length (indices n) * s} zero-le) ∙ append-nil (rows f (indices n)))
+
 -- records of a list that is given by its elements
 pub packed-laid : {X A : Type 0} (enc : X → List A) (g : ℕ → X) (s : ℕ) (l : List A) (n : ℕ) → packed (λ i. enc (g i)) s l n ≡ laid enc s (tab g n) l
 unfolding packed laid
 packed-laid enc g s l n = rw (rows-map enc g (indices n), map-tab, length-tab (λ i. i) n, length-tab g n)
+
+-- records that fill a list
+pub packed-whole : {X A : Type 0} (enc : X → List A) (g : ℕ → X) (s : ℕ) (l : List A) (n : ℕ) → length l ≡ n * s → packed (λ i. enc (g i)) s l n ≡ rows enc (tab g n)
+packed-whole enc g s l n e = packed-laid enc g s l n ∙ laid-whole enc s (tab g n) l (e ∙ ap (λ (k : ℕ). k * s) (sym (length-tab g n)))
 
 -- records that agree at each index
 pub packed-ext : {A : Type 0} (f g : ℕ → List A) (s : ℕ) (l : List A) (n : ℕ) → ((i : ℕ) → i < n → f i ≡ g i) → packed f s l n ≡ packed g s l n

@@ -5,7 +5,7 @@ use Prim.Native.Nat.{ℕ, zero, suc, _+_, _-_, _*_, _≤_, _<_}
 use native.Mathlib.Nat.{not-suc-le-zero, le-of-suc-le-suc, suc-mul, zero-mul, zero-add, add-comm, add-assoc, mul-le-mul-right}
 use native.Mathlib.Omega.{arith}
 use lib.ListN.{length, length-set, set, take, drop, take-append-drop}
-use lib.Seq.{take-at, drop-at, take-append-add, drop-append-add, take-add, drop-length}
+use lib.Seq.{take-at, drop-at, take-append-add, drop-append-add, take-add}
 use Rattle.laws.specs.Tab.{tab, length-tab}
 use Rattle.laws.specs.Splice.{splice}
 use Rattle.laws.specs.Laid.{rows, laid, rows-append, length-rows, laid-rest}
@@ -15,11 +15,6 @@ splice-behind : {A : Type 0} (p q vs : List A) (k : ℕ) → splice (p ++ q) (le
 splice-behind p q vs k = rw (take-append-add p q k, add-assoc (length p) k (length vs), drop-append-add p q (k + length vs)) (append-assoc p (take k q) (vs ++ drop (k + length vs) q))
 
 module _ {X A : Type 0} (enc : X → List A) (s : ℕ) where
-  -- records that fill a list
-  pub laid-whole : (xs : List X) (l : List A) → length l ≡ length xs * s → laid enc s xs l ≡ rows enc xs
-  unfolding laid
-  laid-whole xs l e = rw (← e, drop-length l) (append-nil (rows enc xs))
-
   module _ (g : ℕ → X) (l : List A) where
     rows-back : (n : ℕ) → ((i : ℕ) → i < n → enc (g i) ≡ take s (drop (i * s) l)) → rows enc (tab g n) ≡ take (n * s) l
     unfolding rows tab

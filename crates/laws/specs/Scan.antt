@@ -14,6 +14,12 @@ scan p k (suc r) = cond (p k) k (scan p (suc k) r)
 abbrev pub lowest : (ℕ → Bool) → ℕ → ℕ
 lowest p n = scan p 0 n
 
+-- tests that agree at each index
+pub scan-ext : (p r : ℕ → Bool) (k n : ℕ) → ((j : ℕ) → j < k + n → p j ≡ r j) → scan p k n ≡ scan r k n
+unfolding scan
+scan-ext p r k zero e = refl
+scan-ext p r k (suc n) e = rw (e k (omega arith), scan-ext p r (suc k) n (λ j h. e j (omega arith)))
+
 -- what a loop that looks for the first hit knows at k: the hit is the first from k on
 pub record Scanning (p : ℕ → Bool) (n k : ℕ) : Type 0 where
   pub upto : k ≤ n

@@ -6,7 +6,7 @@ use Prim.Native.Nat.{ℕ, zero, suc, _+_, _-_, _≤_, _<_, zero-le}
 use native.Mathlib.Nat.{not-suc-le-zero, le-refl, eq-or-lt-of-le, le-of-suc-le-suc}
 use native.Mathlib.Numerals.{add-one}
 use native.Mathlib.Omega.{arith}
-use lib.ListN.{length, length-set, getD, drop, set, replicate, length-append, length-drop, length-replicate, getD-replicate, List·getD-append}
+use lib.ListN.{length, length-set, getD, drop, set, replicate, length-append, length-replicate, getD-replicate, List·getD-append}
 use lib.Seq.{drop-length, drop-at, drop-cons, set-at, getD-at, getD-append-add, getD-drop, append-snoc, ext-getD}
 
 module _ {A : Type 0} where
@@ -24,6 +24,10 @@ module _ {A : Type 0} where
   unfolding tab
   length-tab f zero = refl
   length-tab f (suc n) = length-append (tab f n) (f n ∷ []) ∙ ap (λ (k : ℕ). k + 1) (length-tab f n) ∙ add-one n
+
+  pub tab-more : (f : ℕ → A) (n : ℕ) → tab f n ++ (f n ∷ []) ≡ tab f (n + 1)
+  unfolding tab
+  tab-more f n = rw add-one
 
   pub tab-at : (f : ℕ → A) (n i : ℕ) (d : A) → i < n → getD (tab f n) i d ≡ f i
   unfolding tab
@@ -88,6 +92,10 @@ pub map-tab : {A B : Type 0} (g : A → B) (f : ℕ → A) (n : ℕ) → map g (
 unfolding tab
 map-tab g f zero = refl
 map-tab g f (suc n) = map-append g (tab f n) (f n ∷ []) ∙ ap (λ (l : List _). l ++ (g (f n) ∷ [])) (map-tab g f n)
+
+-- what h makes of each element, by its index
+pub tab-map : {X Y : Type 0} (h : X → Y) (xs : List X) (n : ℕ) (d : X) → length xs ≡ n → tab (λ i. h (getD xs i d)) n ≡ map h xs
+tab-map h xs n d e = sym (map-tab h (λ i. getD xs i d) n) ∙ ap (map h) (sym (tab-of (λ i. getD xs i d) xs n d e (λ i q. refl)))
 
 -- 0, 1, .. n - 1
 abbrev pub indices : ℕ → List ℕ

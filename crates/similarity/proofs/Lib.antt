@@ -2,3 +2,4 @@
 pub mod Verdicts
 pub mod Softmax
 pub mod CostLaws
+pub mod ShapeLaws

@@ -9,23 +9,29 @@ use Rattle.similarity.specs.declared.overlap.BoundingBox.{BoundingBox}
 use Rattle.similarity.specs.Overlap.{boxAt}
 
 -- v1 divides both differences by the larger width
-unfoldable pub shapeV1 : BoundingBox → BoundingBox → Float
-shapeV1 det trk =
+abbrev pub exponentV1 : BoundingBox → BoundingBox → Float
+exponentV1 det trk =
     let dw : Float = det .w in
     let dh : Float = det .h in
     let tw : Float = trk .w in
     let th : Float = trk .h in
     let denom : Float = larger dw tw in
-    exp (neg (abs (dw ⊖ tw) ⊘ denom ⊕ abs (dh ⊖ th) ⊘ denom))
+    neg (abs (dw ⊖ tw) ⊘ denom ⊕ abs (dh ⊖ th) ⊘ denom)
+
+unfoldable pub shapeV1 : BoundingBox → BoundingBox → Float
+shapeV1 det trk = exp (exponentV1 det trk)
 
 -- v2 each by the larger of its own
-unfoldable pub shapeV2 : BoundingBox → BoundingBox → Float
-shapeV2 det trk =
+abbrev pub exponentV2 : BoundingBox → BoundingBox → Float
+exponentV2 det trk =
     let dw : Float = det .w in
     let dh : Float = det .h in
     let tw : Float = trk .w in
     let th : Float = trk .h in
-    exp (neg (abs (dw ⊖ tw) ⊘ larger dw tw ⊕ abs (dh ⊖ th) ⊘ larger dh th))
+    neg (abs (dw ⊖ tw) ⊘ larger dw tw ⊕ abs (dh ⊖ th) ⊘ larger dh th)
+
+unfoldable pub shapeV2 : BoundingBox → BoundingBox → Float
+shapeV2 det trk = exp (exponentV2 det trk)
 
 abbrev pub shapeSimilarityV1 : List Float → List Float → ℕ → ℕ → Float
 shapeSimilarityV1 detections tracks i j = shapeV1 (boxAt detections i) (boxAt tracks j)

@@ -1,23 +1,25 @@
-// Matrices over two lists of corners: iou_batch, soft_biou_batch, shape_similarity_v1 and shape_similarity_v2 of assoc.rs, by one loop over the rows and one for the cells of each measure.
+// Matrices over two lists of corners: iou_batch, soft_biou_batch, shape_similarity_v1 and shape_similarity_v2 of assoc.rs, by one loop over the rows and, for each measure, its own over the cells of a row.
 use super::overlap::BoundingBox;
 use super::overlap::box_at;
 use super::overlap::overlap;
 use super::overlap::soft_biou;
 use super::refusal::Verdict;
-use super::shape::shape_v1;
-use super::shape::shape_v2;
+use super::shape::exponent_v1;
+use super::shape::exponent_v2;
 use super::sizes::of_confidences;
 use super::sizes::of_corners;
 ghost use mathlib.Core.Path.{_≡_};
 ghost use mathlib.Core.List.{[]};
 ghost use Prim.Native.Nat.{_*_};
 ghost use lib.ListN.{length, getD};
+ghost use lib.Ieee.{nan};
 ghost use Rattle.laws.specs.Tab.{tab};
 ghost use Rattle.laws.specs.Grid.{grid};
 ghost use Rattle.floats.specs.Single.{zero};
+ghost use Rattle.floats.specs.Exponential.{exp};
 ghost use Rattle.similarity.specs.Sizes.{ofCorners, ofConfidences, after};
 ghost use Rattle.similarity.specs.Overlap.{boxAt, overlap as overlapOf, softBiou, iouBatch, softBiouBatch};
-ghost use Rattle.similarity.specs.Shape.{shapeV1, shapeV2, shapeSimilarityV1, shapeSimilarityV2};
+ghost use Rattle.similarity.specs.Shape.{exponentV1, exponentV2, shapeV1, shapeV2, shapeSimilarityV1, shapeSimilarityV2};
 ghost use Rattle.similarity.specs.Steps.{Ready, measured, measuredBatch};
 
 // What a cell says of a detection and a track.
@@ -64,28 +66,56 @@ fn soft_biou_row(det: BoundingBox, corners: &[f32], confidences: &[f32], cells: 
     }
 }
 
-fn shape_v1_row(det: BoundingBox, corners: &[f32], cells: &mut [f32])
+fn exponent_v1_row(det: BoundingBox, corners: &[f32], cells: &mut [f32])
     requires { ⌜ length (now corners) ≡ length (now cells) * 4 ⌝ }
-    ensures { λ _. ⌜ now (cells .exit) ≡ tab (λ j. shapeV1 det (boxAt (now (corners .entry)) j)) (length (now (cells .entry))) ⌝ }
+    ensures { λ _. ⌜ now (cells .exit) ≡ tab (λ j. exponentV1 det (boxAt (now (corners .entry)) j)) (length (now (cells .entry))) ⌝ }
 {
     let tracks = cells.len();
     let mut j = 0;
     while j < tracks {
-        cells[j] = shape_v1(det, box_at(corners, j));
+        cells[j] = exponent_v1(det, box_at(corners, j));
         j += 1;
     }
+}
+
+fn exponent_v2_row(det: BoundingBox, corners: &[f32], cells: &mut [f32])
+    requires { ⌜ length (now corners) ≡ length (now cells) * 4 ⌝ }
+    ensures { λ _. ⌜ now (cells .exit) ≡ tab (λ j. exponentV2 det (boxAt (now (corners .entry)) j)) (length (now (cells .entry))) ⌝ }
+{
+    let tracks = cells.len();
+    let mut j = 0;
+    while j < tracks {
+        cells[j] = exponent_v2(det, box_at(corners, j));
+        j += 1;
+    }
+}
+
+// The exponentials of a row of exponents, in their place. With a loop of its own the exponents' loop is free of branches, and the compiler works several cells at a time.
+fn exp_row(cells: &mut [f32])
+    ensures { λ _. ⌜ now (cells .exit) ≡ tab (λ j. exp (getD (now (cells .entry)) j nan)) (length (now (cells .entry))) ⌝ }
+{
+    let tracks = cells.len();
+    let mut j = 0;
+    while j < tracks {
+        cells[j] = floats::exp(cells[j]);
+        j += 1;
+    }
+}
+
+fn shape_v1_row(det: BoundingBox, corners: &[f32], cells: &mut [f32])
+    requires { ⌜ length (now corners) ≡ length (now cells) * 4 ⌝ }
+    ensures { λ _. ⌜ now (cells .exit) ≡ tab (λ j. shapeV1 det (boxAt (now (corners .entry)) j)) (length (now (cells .entry))) ⌝ }
+{
+    exponent_v1_row(det, corners, cells);
+    exp_row(cells);
 }
 
 fn shape_v2_row(det: BoundingBox, corners: &[f32], cells: &mut [f32])
     requires { ⌜ length (now corners) ≡ length (now cells) * 4 ⌝ }
     ensures { λ _. ⌜ now (cells .exit) ≡ tab (λ j. shapeV2 det (boxAt (now (corners .entry)) j)) (length (now (cells .entry))) ⌝ }
 {
-    let tracks = cells.len();
-    let mut j = 0;
-    while j < tracks {
-        cells[j] = shape_v2(det, box_at(corners, j));
-        j += 1;
-    }
+    exponent_v2_row(det, corners, cells);
+    exp_row(cells);
 }
 
 fn row(of: Measure, det: BoundingBox, corners: &[f32], confidences: &[f32], cells: &mut [f32])

@@ -22,6 +22,7 @@ ghost use Rattle.similarity.specs.Cost.{confOf, costCell, costMatrix};
 ghost use Rattle.similarity.specs.Steps.{Ready, sureCost, unsureCost};
 
 // The weights, and flags for the Rust's Options: where one is false its slice is not looked at.
+#[repr(C)]
 pub struct AssociateParams {
     pub iou_threshold: f32,
     pub lambda_iou: f32,

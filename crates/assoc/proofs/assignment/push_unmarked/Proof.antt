@@ -4,7 +4,7 @@ use mathlib.Core.Bool.{false, not}
 use Prim.Native.Nat.{_-_}
 use native.Mathlib.Omega.{arith}
 use lib.ListN.{length, getD}
-use Rattle.assoc.proofs.MarkLaws.{Collecting, collect-start, collect-on, collect-end}
+use Rattle.laws.specs.Collecting.{Collecting, collect-start, collect-on, collect-end}
 use Rattle.assoc.proofs.assignment.push_unmarked.Statement.{statement}
 use Rattle.assoc.proofs.assignment.push_unmarked.Tie as tie
 
@@ -15,7 +15,7 @@ abbrev μ-loop : tie.MeasureT-loop
 μ-loop marks out₀ k₀ i₀ out k i = length marks - i
 
 loop-holds : tie.Need-loop-holds Inv-loop μ-loop
-loop-holds c = collect-start _ _ _
+loop-holds c = collect-start
 
 shared-slice-read-push : tie.Need-shared-slice-read-push Inv-loop μ-loop
 shared-slice-read-push c = omega (arith, c .before .before .loop-test .taken)
@@ -34,13 +34,13 @@ loop-less c = omega (arith, c .before .before .before .before .before .loop-test
 loop-again : tie.Need-loop-again Inv-loop μ-loop
 loop-again c =
     let start = c .before .before .before .before .before .before .before .before .before in
-    collect-on _ _ _ (c .before .before .before .before .before .before .loop .inv) (c .before .before .before .before .before .loop-test .taken) (start .pre) refl (c .before .before .push .ensures)
+    collect-on (c .before .before .before .before .before .before .loop .inv) (c .before .before .before .before .before .loop-test .taken) (start .pre) refl (c .before .before .push .ensures)
 
 same-length : tie.Need-same-length Inv-loop μ-loop
 same-length c = c .before .loop .inv .pushed .same
 
 returns : tie.Need-returns Inv-loop μ-loop
-returns c = collect-end _ _ _ (c .before .loop .inv) (c .loop-test .left)
+returns c = collect-end (c .before .loop .inv) (c .loop-test .left)
 
 pub push-unmarked-spec : {M : Type 1} → statement M
 push-unmarked-spec =

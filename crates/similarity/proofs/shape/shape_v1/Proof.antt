@@ -1,11 +1,12 @@
--- `shape::shape_v1` meets its contract: the definition's operations in its order. Assumes nothing.
+-- `shape::shape_v1` meets its contract: the exponential of its exponent. Assumes nothing.
+use mathlib.Core.Path.{_∙_}
 use Rattle.similarity.specs.Shape.{shapeV1}
 use Rattle.similarity.proofs.shape.shape_v1.Statement.{statement}
 use Rattle.similarity.proofs.shape.shape_v1.Tie as tie
 
 returns : tie.Need-returns
 unfolding shapeV1
-returns c = cc
+returns c = c .exp .ensures ∙ rw (c .before .exponent-v1 .ensures)
 
 pub shape-v1-spec : {M : Type 1} → statement M
-shape-v1-spec = tie.close (tie.spec (λ c κs. tt) (λ c κs. tt) (λ c κs. tt) (λ c κs. tt) returns)
+shape-v1-spec = tie.close (tie.spec (λ c κs. tt) (λ c κs. tt) returns)

@@ -1,0 +1,26 @@
+-- `boost_tracker_vectors::refusals::alone` is safe and ends. The loop's invariant: `k` is at most 51. The measure is what is left
+-- to 51. Assumes nothing.
+use Prim.Native.Nat.{_≤_, _-_}
+use native.Mathlib.Omega.{arith}
+use borrow.Author.Needs.{needs}
+use Rattle.boost_tracker_vectors.proofs.refusals.alone.Statement.{statement}
+use Rattle.boost_tracker_vectors.proofs.refusals.alone.Tie as tie
+
+abbrev Inv-loop : tie.InvT-loop
+Inv-loop mask₀ k₀ mask k = k ≤ 51
+
+abbrev μ-loop : tie.MeasureT-loop
+μ-loop mask₀ k₀ mask k = 51 - k
+
+pub alone-spec : {M : Type 1} → statement M
+alone-spec =
+    tie.close
+    (tie.spec
+    Inv-loop
+    μ-loop
+    (λ c. omega arith)
+    (λ c κs. search needs)
+    (λ c. omega arith)
+    (λ c. omega arith)
+    (λ c. omega arith)
+    (λ c. search needs))

@@ -1,0 +1,288 @@
+//! A frame: the port's bedside_update beside the published tracker, the whole table and every lent cell.
+
+use crate::case::Case;
+use crate::digest::bits;
+use crate::frame::{Answer, Record, Table};
+use crate::lent::Lent;
+use crate::port::{self, Updated};
+use crate::random::Random;
+use crate::report::{Found, Report, caught};
+use crate::scenes::{self, Scene};
+use crate::tables;
+use crate::verdict::{State, capacity};
+use jamtrack_rs::boost_tracker::boost_tracker::inside::Settings;
+use std::panic::{AssertUnwindSafe, catch_unwind};
+
+/// What the lent output bytes and work slices hold before a call.
+const BYTE: u8 = 7;
+const WORK: f32 = 1.0;
+
+/// A call of a frame: all that is given and lent, of output and work slices the lengths.
+#[derive(Clone)]
+pub struct Input {
+    pub settings: Settings,
+    pub state: State,
+    pub floats: Vec<f32>,
+    pub counters: Vec<u64>,
+    pub boxes: Vec<f32>,
+    pub lengths: [usize; 3],
+}
+
+impl Input {
+    pub fn new(table: &Table, boxes: &[f32], lengths: [usize; 3]) -> Input {
+        Input {
+            settings: table.settings,
+            state: table.state,
+            floats: table.floats.clone(),
+            counters: table.counters.clone(),
+            boxes: boxes.to_vec(),
+            lengths,
+        }
+    }
+
+    fn case(&self) -> Case {
+        let State { count, last, frames } = self.state;
+        let case = Case::new("frames").words("settings", &self.settings.words()).words("state", &[count, last, frames]);
+        let case = case.floats("floats", &self.floats).words("counters", &self.counters);
+        case.floats("boxes", &self.boxes).numbers("lengths", &self.lengths)
+    }
+
+    fn read(case: &Case) -> Input {
+        let [count, last, frames] = case.get("state").try_into().expect("three words");
+        Input {
+            settings: Settings::of(case.get("settings")),
+            state: State { count, last, frames },
+            floats: case.get_floats("floats"),
+            counters: case.get("counters").to_vec(),
+            boxes: case.get_floats("boxes"),
+            lengths: case.get_numbers("lengths").try_into().expect("three lengths"),
+        }
+    }
+
+    fn table(&self) -> Table {
+        Table::new(self.settings, self.state, self.floats.clone(), self.counters.clone())
+    }
+
+    /// Asked of the build without optimisation.
+    fn finite(&self) -> bool {
+        let State { count, last, frames } = self.state;
+        let (floats, counters) = (&self.floats, &self.counters);
+        finite::finite(&self.settings.words(), [count, last, frames], floats, counters, &self.boxes)
+    }
+}
+
+// ---- the port
+
+struct Back {
+    floats: Vec<f32>,
+    counters: Vec<u64>,
+    out: Vec<u8>,
+    work64: Vec<f64>,
+    work32: Vec<f32>,
+}
+
+fn settings(s: &Settings) -> port::Settings {
+    let on = |bit: u64| s.flags & bit != 0;
+    let [iou, mhd, shape] = s.lambdas;
+    port::Settings {
+        floats: [s.det_thresh, s.iou_threshold, iou, mhd, shape, s.dlo_boost_coef],
+        max_age: s.max_age,
+        min_hits: s.min_hits,
+        uses: [on(1), on(2), on(4), !on(32), on(8), on(16)],
+    }
+}
+
+fn of_port(input: &Input) -> (Updated, Back) {
+    let mut floats = Lent::new(&input.floats, 3.5);
+    let mut counters = Lent::new(&input.counters, 5);
+    let mut boxes = Lent::new(&input.boxes, 3.5);
+    let mut out = Lent::filled(input.lengths[0], BYTE, 9);
+    let mut work64 = Lent::filled(input.lengths[1], WORK as f64, 2.5);
+    let mut work32 = Lent::filled(input.lengths[2], WORK, 3.5);
+    // SAFETY: each pointer comes with its slice's length, and no two of the slices overlap.
+    let updated = unsafe {
+        port::bedside_update(
+            settings(&input.settings), input.state, floats.start(), floats.len(), counters.start(), counters.len(),
+            boxes.start(), boxes.len(), out.start(), out.len(), work64.start(), work64.len(), work32.start(),
+            work32.len(),
+        )
+    };
+    assert!(exactly(&boxes.back(), &input.boxes), "a box was written");
+    let (floats, counters) = (floats.back(), counters.back());
+    (updated, Back { floats, counters, out: out.back(), work64: work64.back(), work32: work32.back() })
+}
+
+// ---- comparisons
+
+fn exactly(a: &[f32], b: &[f32]) -> bool {
+    a.len() == b.len() && a.iter().zip(b).all(|(x, y)| x.to_bits() == y.to_bits())
+}
+
+fn alike(a: &[f32], b: &[f32]) -> bool {
+    a.len() == b.len() && a.iter().zip(b).all(|(&x, &y)| bits(x) == bits(y))
+}
+
+fn same_record(record: &Record, bytes: &[u8]) -> bool {
+    let word = |k: usize| u32::from_le_bytes(bytes[k..k + 4].try_into().unwrap());
+    let id = u64::from_le_bytes(bytes[4..12].try_into().unwrap());
+    let floats: [f32; 5] = std::array::from_fn(|k| f32::from_bits(word(12 + 4 * k)));
+    word(0) == record.frame && id == record.id && alike(&floats, &record.floats)
+}
+
+/// The records, then the bytes as they were.
+fn same_out(answer: &Answer, out: &[u8]) -> bool {
+    let (written, rest) = out.split_at(32 * answer.records.len());
+    let records = answer.records.iter().zip(written.chunks(32));
+    records.into_iter().all(|(record, bytes)| same_record(record, bytes)) && rest.iter().all(|&k| k == BYTE)
+}
+
+/// Of a refused call, and past the places, every bit is as it was.
+fn same_table(table: &Table, answer: &Answer, back: &Back) -> bool {
+    let held = if answer.refusal == 0 { 24 * capacity(&table.floats, &table.counters) } else { 0 };
+    alike(&table.floats[..held], &back.floats[..held])
+        && exactly(&table.floats[held..], &back.floats[held..])
+        && table.counters == back.counters
+}
+
+fn same_answer(table: &Table, answer: &Answer, port: &Updated) -> bool {
+    let state = |s: &State| [s.count, s.last, s.frames];
+    (answer.refusal, answer.index as u64) == (port.refusal, port.index)
+        && (answer.records.len() as u64, answer.turns, answer.scans) == (port.emitted, port.turns, port.scans)
+        && state(&table.state) == state(&port.state)
+}
+
+fn difference(table: &Table, answer: &Answer, port: &Updated, back: &Back) -> Option<&'static str> {
+    let work = if answer.refusal == 0 { 0.0 } else { WORK };
+    if !same_answer(table, answer, port) {
+        Some("the answers differ")
+    } else if !same_table(table, answer, back) {
+        Some("the tables differ")
+    } else if !same_out(answer, &back.out) {
+        Some("the records differ")
+    } else if back.work64.iter().any(|&x| x != work as f64) || back.work32.iter().any(|&x| x != work) {
+        Some("the work slices differ")
+    } else {
+        None
+    }
+}
+
+/// Both on one frame, from which the Rust's table goes on. The number and the row turns that both answered.
+fn agree(table: &mut Table, input: &Input) -> Result<(u64, u64), String> {
+    let (port, back) = of_port(input);
+    let [out, work64, work32] = input.lengths;
+    let answer = catch_unwind(AssertUnwindSafe(|| table.update(&input.boxes, out, work64, work32)));
+    let Ok(answer) = answer else {
+        return Err(format!("the Rust panics, the port says {}", port.refusal));
+    };
+    let boxes = input.boxes.len() / 5;
+    let said = |what: &str| format!("{} tracks, {boxes} boxes: {what}", input.state.count);
+    difference(table, &answer, &port, &back).map_or(Ok((answer.refusal as u64, answer.turns)), |what| Err(said(what)))
+}
+
+pub fn check(case: &Case) -> Found {
+    let input = Input::read(case);
+    match agree(&mut input.table(), &input) {
+        Err(what) if !input.finite() => {
+            println!("{what}; not every value is finite, so nothing is asked");
+            Ok(0)
+        }
+        found => found.map(|(number, _)| number),
+    }
+}
+
+// ---- scenes
+
+/// A frame of a scene; whether the two can go on.
+pub fn frame(table: &mut Table, boxes: &[f32], lengths: [usize; 3], report: &mut Report) -> bool {
+    let input = Input::new(table, boxes, lengths);
+    let found = caught(|| agree(table, &input));
+    let same = found.is_ok();
+    if !same && !input.finite() {
+        report.not_finite += 1;
+    } else {
+        report.turned += found.as_ref().is_ok_and(|answered| answered.1 > 0) as u64;
+        report.judge(found.map(|answered| answered.0), || input.case());
+    }
+    same
+}
+
+/// What output and work slices have to have.
+pub fn needed(held: usize, boxes: usize) -> [usize; 3] {
+    let n = held.max(boxes);
+    [32 * (held + boxes), n * n, 4 * n * n]
+}
+
+/// That and up to two more, or one less where the frame is to be refused for it.
+fn lengths(scene: &Scene, f: usize, held: usize, boxes: usize) -> [usize; 3] {
+    let (needed, short) = (needed(held, boxes), scene.damaged(f));
+    let more = [f % 3, f % 2, (f + 1) % 3];
+    std::array::from_fn(|k| if short == k + 2 && needed[k] > 0 { needed[k] - 1 } else { needed[k] + more[k] })
+}
+
+fn play(scene: &mut Scene, table: &mut Table, report: &mut Report) -> bool {
+    (0..scene.frames).all(|f| {
+        let boxes = scene.boxes(f);
+        let lengths = lengths(scene, f, table.state.count as usize, boxes.len() / 5);
+        frame(table, &boxes, lengths, report)
+    })
+}
+
+/// A scene of the fixed list with other numbers, its own settings or others; rarely a large one.
+fn scene(random: &Random, report: &mut Report) {
+    let s = if random.one_in(60) { 72 + random.index(8) } else { random.index(72) };
+    let mut scene = scenes::seeded(s, random.word());
+    if random.one_in(2) {
+        scene.settings = tables::settings(random);
+    }
+    let (state, floats, counters) = scene.start();
+    let mut table = Table::new(scene.settings, state, floats, counters);
+    play(&mut scene, &mut table, report);
+}
+
+/// Scenes of few actors one after the other over one table of 64 places, from empty.
+fn night(random: &Random, report: &mut Report) {
+    let kinds = [0, 1, 2, 3, 10, 0, 1, 2, 3, 10, 4, 5, 11];
+    let settings = tables::settings(random);
+    let state = State { count: 0, last: 0, frames: 0 };
+    let mut table = Table::new(settings, state, vec![7.0; 64 * 24 + 5], vec![7; 64 * 4 + 3]);
+    for _ in 0..12 {
+        let mut scene = scenes::seeded(12 * random.index(6) + random.pick(&kinds), random.word());
+        scene.settings = settings;
+        scene.start();
+        if !play(&mut scene, &mut table, report) {
+            return;
+        }
+    }
+}
+
+/// A few frames from an arbitrary sound table; and now and then a call that is spoiled.
+fn from_table(random: &Random, report: &mut Report) {
+    let manner = tables::Manner::new(random);
+    let mut table = manner.table(random);
+    for _ in 0..1 + random.below(5) {
+        let boxes = manner.boxes(&table, random);
+        let lengths = needed(table.state.count as usize, boxes.len() / 5).map(|length| length + random.index(3));
+        if random.one_in(4) {
+            let mut input = Input::new(&table, &boxes, lengths);
+            (0..1 + random.below(3)).for_each(|_| tables::spoil(&mut input, random));
+            frame(&mut input.table(), &input.boxes, input.lengths, report);
+        }
+        if !frame(&mut table, &boxes, lengths, report) {
+            return;
+        }
+    }
+}
+
+fn at_limit(random: &Random, report: &mut Report) {
+    let (mut table, boxes) = tables::at_limit(random);
+    frame(&mut table, &boxes, needed(1, 1), report);
+}
+
+pub fn run(random: &Random, report: &mut Report) {
+    match random.below(16) {
+        0 => night(random, report),
+        1..5 => scene(random, report),
+        5 => (0..20).for_each(|_| at_limit(random, report)),
+        _ => (0..20).for_each(|_| from_table(random, report)),
+    }
+}
