@@ -170,13 +170,18 @@ fn side(random: &Random) -> usize {
     }
 }
 
-/// A matrix of some kind, of the same random numbers as boxes of a kind would have.
+/// Boxes whose two directions mostly are of one kind, matrices of any.
 fn inputs_of(routine: usize, boxes: usize, tracks: usize, random: &Random) -> Vec<Vec<f32>> {
     // The slice's number is joined to the seed of its random numbers: so is ours.
     let seed = random.word() << 8;
     let kind = random.index(inputs::BOX_KINDS);
+    let upright = if random.one_in(4) { random.index(inputs::BOX_KINDS) } else { kind };
     let cells = |slice: u64, kind: usize, length: usize| inputs::cells(slice ^ seed, kind, boxes, tracks, length);
-    let corners = |slice: u64, length: usize| inputs::corners(slice ^ seed, kind, boxes, tracks, length);
+    let corners = |slice: u64, length: usize| {
+        let [mut x, y] = [kind, upright].map(|kind| inputs::corners(slice ^ seed, kind, boxes, tracks, length));
+        (1..length).step_by(2).for_each(|k| x[k] = y[k]);
+        x
+    };
     let confidence = if random.one_in(2) { inputs::CROWD } else { kind };
     let corners = [corners(inputs::DETECTIONS, 4 * boxes), corners(inputs::CORNERS, 4 * tracks)];
     let of_tracks = cells(inputs::TRACK_CONFIDENCE, confidence, tracks);
