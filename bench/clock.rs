@@ -1,4 +1,4 @@
-//! The processor's time that this thread has had, so that other work on the machine counts little.
+//! The processor's time that this thread has had, so that other work on the machine counts little; and medians.
 
 use std::time::Duration;
 
@@ -9,7 +9,7 @@ struct Timespec {
     nanoseconds: i64,
 }
 
-extern "C" {
+unsafe extern "C" {
     fn clock_gettime(clock: i32, now: *mut Timespec) -> i32;
 }
 
@@ -18,4 +18,9 @@ pub fn thread_time() -> Duration {
     let mut now = Timespec { seconds: 0, nanoseconds: 0 };
     assert_eq!(unsafe { clock_gettime(CLOCK_THREAD_CPUTIME_ID, &mut now) }, 0);
     Duration::new(now.seconds as u64, now.nanoseconds as u32)
+}
+
+pub fn median(mut s: Vec<f64>) -> f64 {
+    s.sort_by(f64::total_cmp);
+    s[s.len() / 2]
 }

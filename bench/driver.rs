@@ -1,13 +1,16 @@
 //! Times the float functions of libbedside.a, their plain Rust and the C library's on the same inputs, and
-//! prints a table. A figure is the least of many passes, in nanoseconds a call.
+//! prints a table. A figure is a median over passes in which they take turns, in nanoseconds a call; a ratio is the
+//! median of the passes' ratios.
 
+mod clock;
+
+use clock::{median, thread_time};
 use std::hint::black_box;
 use std::process::exit;
-use std::time::Instant;
 
 const INPUTS: usize = 4096;
 const SWEEPS: usize = 3; // over the inputs, in a pass
-const PASSES: usize = 1000;
+const PASSES: usize = 301;
 
 type Unary = unsafe extern "C" fn(f32) -> f32;
 type Binary = unsafe extern "C" fn(f32, f32) -> f32;
@@ -70,21 +73,21 @@ type Ways<F> = [Option<F>; 4];
 
 /// Times each way over the inputs, pass by pass in turn, and prints the row. `call` makes one call.
 fn row<F: Copy, X: Copy>(name: &str, inputs: &[X], ways: Ways<F>, call: impl Fn(F, X) -> f32) {
-    let mut least = [f64::NAN; 4];
+    let mut times: [Vec<f64>; 4] = Default::default();
     let mut results = vec![vec![0.0f32; inputs.len()]; 4];
     for _ in 0..PASSES {
         for (way, function) in ways.iter().enumerate() {
             let Some(function) = *function else { continue };
             let function = black_box(function);
-            let started = Instant::now();
+            let started = thread_time();
             for _ in 0..SWEEPS {
                 for (result, &x) in results[way].iter_mut().zip(inputs) {
                     *result = call(function, x);
                 }
                 black_box(&results[way]);
             }
-            let took = started.elapsed().as_nanos() as f64 / (SWEEPS * inputs.len()) as f64;
-            least[way] = least[way].min(took);
+            let took = (thread_time() - started).as_nanos() as f64;
+            times[way].push(took / (SWEEPS * inputs.len()) as f64);
         }
     }
     for way in [1, 2] {
@@ -92,24 +95,19 @@ fn row<F: Copy, X: Copy>(name: &str, inputs: &[X], ways: Ways<F>, call: impl Fn(
             agree(name, &results[0], &results[way]);
         }
     }
-    let [port, plain, machine, libm] = least;
-    print!("{name:18}");
-    for time in least {
-        print!("{}", figure(time));
+    print!("| {name} |");
+    for way in &times {
+        print!(" {} |", figure(way.clone()));
     }
-    print!("  ");
-    for rival in [plain, machine, libm] {
-        print!("{}", figure(port / rival));
+    for rival in &times[1..] {
+        print!(" {} |", figure(times[0].iter().zip(rival).map(|(port, rival)| port / rival).collect()));
     }
     println!();
 }
 
-fn figure(x: f64) -> String {
-    if x.is_nan() {
-        format!("{:>9}", "-")
-    } else {
-        format!("{x:9.2}")
-    }
+/// The median; nothing where there is no such way.
+fn figure(s: Vec<f64>) -> String {
+    if s.is_empty() { String::new() } else { format!("{:.2}", median(s)) }
 }
 
 /// The port and a plain writing give the same bits, all NaNs taken as one.
@@ -146,10 +144,8 @@ fn main() {
         .map(|_| (spread.between(-1.0, 1.0), spread.between(-1.0, 1.0)))
         .collect();
 
-    println!(
-        "plain: Rust by whole numbers; machine: Rust with f64 or f32::sqrt; a figure is ns a call"
-    );
-    println!("                       port    plain  machine     libm     /plain /machine    /libm");
+    println!("| ns a call | port | plain | machine | libm | port / plain | port / machine | port / libm |");
+    println!("|---|---|---|---|---|---|---|---|");
     unary("an empty call", &wide, [Some(nothing), None, None, None]);
     let exp: Ways<Unary> = [
         Some(bedside_exp),
@@ -157,8 +153,8 @@ fn main() {
         Some(plain::exp_f64),
         Some(expf),
     ];
-    unary("exp [-104, 89]", &wide, exp);
-    unary("exp [-10, 0]", &near, exp);
+    unary("exp, −104 to 89", &wide, exp);
+    unary("exp, −10 to 0", &near, exp);
     let sqrt: Ways<Unary> = [
         Some(bedside_sqrt),
         Some(plain::sqrt),
@@ -166,16 +162,16 @@ fn main() {
         Some(sqrtf),
     ];
     unary("sqrt, all above 0", &positive, sqrt);
-    unary("sqrt [0, 100]", &areas, sqrt);
+    unary("sqrt, 0 to 100", &areas, sqrt);
     let powf: Ways<Unary> = [
         Some(bedside_powf_1_5),
         Some(plain::powf_1_5),
         Some(plain::powf_1_5_f32),
         Some(libm_powf_1_5),
     ];
-    unary("powf 1.5 [0, 100]", &areas, powf);
+    unary("powf 1.5, 0 to 100", &areas, powf);
     let powi: Ways<Power> = [Some(bedside_powi), Some(plain::powi), None, Some(libm_powi)];
-    power("powi 0.9, -1..30", &ages, powi);
+    power("powi of 0.9 by −1 to 30", &ages, powi);
     binary(
         "max",
         &pairs,

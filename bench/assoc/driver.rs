@@ -27,7 +27,7 @@ mod with_libm {
     include!(concat!(env!("PUBLISHED"), "/assoc_libm.rs"));
 }
 
-use clock::thread_time;
+use clock::{median, thread_time};
 use inputs::{cells, corners};
 use nalgebra::DMatrix;
 use port::Room;
@@ -208,11 +208,6 @@ fn time(calls: u32, mut call: impl FnMut()) -> f64 {
         call();
     }
     (thread_time() - start).as_nanos() as f64 / calls as f64
-}
-
-fn median(mut s: Vec<f64>) -> f64 {
-    s.sort_by(f64::total_cmp);
-    s[s.len() / 2]
 }
 
 /// Nanoseconds of a call of each, and the two ratios: medians over rounds in which the three take turns.

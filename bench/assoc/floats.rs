@@ -11,7 +11,7 @@ pub fn exp(a: f32) -> f32 {
     unsafe { bedside_exp(a) }
 }
 
-/// What oracle/assoc/floats.list puts for `max` and `min` of floats.
+/// What oracle/jamtrack/assoc.list puts for `max` and `min` of floats.
 pub trait Pick {
     fn larger(self, other: Self) -> Self;
     fn smaller(self, other: Self) -> Self;

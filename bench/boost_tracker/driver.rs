@@ -8,9 +8,13 @@
 //!
 //! The published files are here twice: with the scope document's float functions, and as they are, with libm's.
 
+#[allow(dead_code)]
+#[path = "../clock.rs"]
+mod clock;
 mod nights;
 mod port;
 
+use clock::median;
 use nights::Night;
 use port::Lent;
 use std::hint::black_box;
@@ -121,11 +125,6 @@ fn pass<W: FnMut(usize)>(frames: usize, tracker: impl Fn() -> W) -> Vec<f64> {
         start.elapsed().as_nanos() as f64
     };
     (0..frames).map(time).collect()
-}
-
-fn median(mut s: Vec<f64>) -> f64 {
-    s.sort_by(f64::total_cmp);
-    s[s.len() / 2]
 }
 
 /// Each frame's median over the rounds.

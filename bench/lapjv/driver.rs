@@ -15,7 +15,7 @@ mod lapjv {
     include!(env!("LAPJV_RS"));
 }
 
-use clock::thread_time;
+use clock::{median, thread_time};
 use std::time::Duration;
 
 #[repr(C)]
@@ -70,24 +70,28 @@ fn call_published(case: &mut Case) {
     lapjv::lapjv(&mut case.rows, &mut case.signed_x, &mut case.signed_y).expect("an assignment");
 }
 
-fn time(call: fn(&mut Case), case: &mut Case, calls: u32) -> Duration {
+/// Nanoseconds of a call.
+fn time(call: fn(&mut Case), case: &mut Case, calls: u32) -> f64 {
     let start = thread_time();
     for _ in 0..calls {
         call(case);
     }
-    (thread_time() - start) / calls
+    (thread_time() - start).as_nanos() as f64 / f64::from(calls)
 }
 
-/// The least time of a call, over rounds in which the two take turns.
-fn least_times(case: &mut Case) -> (Duration, Duration) {
-    let one = time(call_published, case, 1).max(Duration::from_nanos(1));
-    let calls = (Duration::from_millis(1).as_nanos() / one.as_nanos()).clamp(1, 10_000) as u32;
-    let mut least = (Duration::MAX, Duration::MAX);
-    for _ in 0..40 {
-        least.0 = least.0.min(time(call_port, case, calls));
-        least.1 = least.1.min(time(call_published, case, calls));
+/// Nanoseconds of a call of each, and the ratio: medians over rounds in which the two take turns.
+fn medians(case: &mut Case) -> [f64; 3] {
+    let one = time(call_published, case, 1).max(1.0);
+    let calls = (Duration::from_millis(1).as_nanos() as f64 / one).clamp(1.0, 10_000.0) as u32;
+    let mut columns: [Vec<f64>; 3] = Default::default();
+    for _ in 0..61 {
+        let port = time(call_port, case, calls);
+        let published = time(call_published, case, calls);
+        for (column, value) in columns.iter_mut().zip([port, published, port / published]) {
+            column.push(value);
+        }
     }
-    least
+    columns.map(median)
 }
 
 fn table() {
@@ -96,10 +100,9 @@ fn table() {
     for kind in ["uniform", "tied", "worst", "scans"] {
         for n in [16, 64, 255] {
             let mut case = Case::new(kind, n);
-            let (port, published) = least_times(&mut case);
+            let [port, published, ratio] = medians(&mut case);
             assert!(case.agrees(), "{kind} {n}: different assignments");
-            let ratio = port.as_nanos() as f64 / published.as_nanos() as f64;
-            println!("| {kind} | {n} | {} | {} | {ratio:.2} |", port.as_nanos(), published.as_nanos());
+            println!("| {kind} | {n} | {port:.0} | {published:.0} | {ratio:.2} |");
         }
     }
 }

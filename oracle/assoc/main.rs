@@ -1,20 +1,13 @@
 //! Prints what crates/assoc_vectors has to print: the published assoc.rs, with lapjv.rs and its two counts, on the same
 //! inputs; and for the calls that the port turns down, the numbers of the scope document.
 
-extern crate floats;
-
-#[allow(warnings)]
-mod assoc;
 mod call;
-#[allow(dead_code)]
-mod counters;
-mod error;
 mod inputs;
-#[allow(warnings)]
-mod lapjv;
 
 use call::{Answer, Call, square};
 use inputs::{KINDS, cells, corners, next};
+use jamtrack_rs::boost_tracker::assoc;
+use jamtrack_rs::counters;
 
 // ---- digests
 

@@ -4,13 +4,14 @@
 //!     search [SECONDS]    for each side from 2 to 8; 10 without it
 
 #[allow(dead_code)]
+#[path = "../jamtrack/counters.rs"]
 mod counters;
 mod error;
 #[allow(dead_code)]
 mod matrices;
 #[allow(warnings)]
 mod lapjv {
-    include!(env!("LAPJV_RS"));
+    include!(concat!(env!("OUT_DIR"), "/counted.rs"));
 }
 
 use counters::Counts;

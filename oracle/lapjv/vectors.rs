@@ -2,13 +2,14 @@
 //! and for the calls that the port turns down, the numbers of the scope document.
 
 #[allow(dead_code)]
+#[path = "../jamtrack/counters.rs"]
 mod counters;
 mod error;
 #[allow(dead_code)]
 mod matrices;
 #[allow(warnings)]
 mod lapjv {
-    include!(env!("LAPJV_RS"));
+    include!(concat!(env!("OUT_DIR"), "/counted.rs"));
 }
 
 fn line(head: String, answer: [u64; 3], x: &[isize], y: &[isize]) {

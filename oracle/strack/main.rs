@@ -1,11 +1,7 @@
 // Prints what the published kalman_filter.rs, strack.rs and rect.rs make of the inputs of
 // crates/strack_vectors, whose main.rt says what each line is. The 8 by 8 covariance is looked at
 // whole after every step: what lies outside the four pairs has to be zero.
-mod boost_tracker {
-    pub mod kalman_filter;
-    pub mod strack;
-}
-mod rect;
+include!(concat!(env!("OUT_DIR"), "/modules.rs"));
 
 use boost_tracker::strack::{KalmanBoxTracker, convert_bbox_to_z, convert_z_to_bbox};
 use rect::Rect;
@@ -117,7 +113,7 @@ fn report(t: &KalmanBoxTracker) {
     for x in pairs(t) {
         digest = next(digest ^ bits(x) as u64);
     }
-    for n in [t.time_since_update(), t.hit_streak(), t.age()] {
+    for n in [t.time_since_update(), t.hit_streak(), t.age] {
         digest = next(digest ^ n as u64);
     }
     show(&t.get_state());
@@ -162,10 +158,10 @@ fn counters() {
                 show(&[t.get_confidence(coef)]);
             }
             t.predict();
-            print!("{:x} {:x} {:x} ", t.time_since_update(), t.hit_streak(), t.age());
+            print!("{:x} {:x} {:x} ", t.time_since_update(), t.hit_streak(), t.age);
             t.hit_streak = since as usize;
             t.update(&[0.0, 0.0, 1.0, 1.0], 0.5);
-            println!("{:x} {:x} {:x}", t.time_since_update(), t.hit_streak(), t.age());
+            println!("{:x} {:x} {:x}", t.time_since_update(), t.hit_streak(), t.age);
         }
     }
 }

@@ -7,7 +7,7 @@ use native.Mathlib.Nat.{mul-le-mul, add-sub-cancel-left}
 use native.Mathlib.Omega.{arith}
 use lib.Dec.{ltb, eqb}
 use lib.Ieee.{Float, nan, binary32, ofBits}
-use lib.ListN.{length, getD, take, drop, length-drop, List·getD-append}
+use lib.ListN.{length, getD, take, drop, replicate, length-drop, length-replicate, List·getD-append}
 use lib.Seq.{getD-take, take-at, drop-at, length-take-le}
 use borrow.Author.Tests.{ltb-false, eqb-true, le-ltb, eq-eqb}
 use borrow.Rule.Slice.PartMut.{putMid}
@@ -26,18 +26,20 @@ use Rattle.similarity.specs.Overlap.{boxAt, iouBatch}
 use Rattle.similarity.specs.Mahalanobis.{mhDistSimilarity}
 use Rattle.similarity.specs.Cost.{costMatrix}
 use Rattle.similarity.specs.Laws.{passed, few-sides, same-size, cost-ext}
-use Rattle.assoc.specs.Assignment.{assignment, validated, linearAssignment}
-use Rattle.assoc.specs.Matching.{matchDetections}
-use Rattle.assoc.specs.Account.{Accounted}
+use Rattle.matching.specs.declared.assignment.AssignmentAnswer.{AssignmentAnswer}
+use Rattle.matching.specs.Matching.{matchDetections}
+use Rattle.matching.specs.Assignment.{assignment, validated, linearAssignment}
+use Rattle.matching.specs.Answers.{assignmentShort, assignmentVerdict, AssignmentEnds}
 use Rattle.assoc.specs.Association.{ious, costs, associate}
-use Rattle.assoc.specs.Answers.{assignmentShort, assignmentVerdict, otherSize, associateShort, withinVerdict, associateVerdict, cleared}
-use Rattle.assoc.proofs.AnswerLaws.{roomy}
-use Rattle.assoc.proofs.AccountLaws.{no-indices, accounted}
-use Rattle.assoc.specs.declared.assignment.AssignmentCounts.{AssignmentCounts}
-use Rattle.assoc.specs.AssignmentSteps.{AssignmentReady, AssignmentDone}
-use Rattle.assoc.specs.AssociationSteps.{Cornered, AssociateReady, Likened, Halves, AssociateDone}
+use Rattle.assoc.specs.Answers.{otherSize, associateShort, withinVerdict, associateVerdict, cleared}
+use Rattle.assoc.specs.AssociationSteps.{Cornered, Likened, Halves, PairedUp}
 
 -- ---- the verdict
+
+-- what an accepted call has been found to hold: corners that fit, and what linear_assignment accepts
+pub record AssociateReady (boxes tracks detections corners pairs partners unmatchedDetections unmatchedTracks work64 work32 : ℕ) : Type 0 where
+  pub cornered : Cornered boxes tracks detections corners work32
+  pub assigned : assignmentVerdict boxes tracks (boxes * tracks) (boxes * tracks) pairs partners unmatchedDetections unmatchedTracks work64 ≡ Accepted
 
 module _ (params : AssociateParams) (boxes tracks detections corners trackConfidence detectionConfidence pairs partners unmatchedDetections unmatchedTracks work64 work32 : ℕ) where
   -- past the tests of its own, within_verdict leaves the rest to linear_assignment's
@@ -54,34 +56,31 @@ module _ (params : AssociateParams) (boxes tracks detections corners trackConfid
   unfolding withinVerdict associateVerdict
   associate-rest mahalanobis e f = rw (e, f)
 
-  ready-of : tooMany boxes tracks ≡ false → otherSize params boxes tracks detections corners trackConfidence detectionConfidence ≡ false
-      → associateShort boxes tracks pairs partners unmatchedDetections unmatchedTracks work64 work32 ≡ false → AssociateReady boxes tracks detections corners pairs partners unmatchedDetections unmatchedTracks work64 work32
-  ready-of e f g =
+  -- what an accepted call knows
+  pub within-ready : withinVerdict params boxes tracks detections corners trackConfidence detectionConfidence pairs partners unmatchedDetections unmatchedTracks work64 work32 ≡ Accepted
+      → AssociateReady boxes tracks detections corners pairs partners unmatchedDetections unmatchedTracks work64 work32
+  unfolding withinVerdict
+  within-ready e =
       let n : ℕ = greater boxes tracks in
-      let low = few-sides boxes tracks e in
-      let s = or-none (not (eqb detections (boxes * 4))) (not (eqb corners (tracks * 4))) (or-none (not (eqb detections (boxes * 4)) || not (eqb corners (tracks * 4))) _ f .0) in
-      let r = or-none (ltb work32 (4 * (n * n))) (assignmentShort boxes tracks pairs partners unmatchedDetections unmatchedTracks work64) g in
-      let room = roomy boxes tracks pairs partners unmatchedDetections unmatchedTracks work64 (r .1) in
+      let p = passed _ _ _ e in
+      let low = few-sides boxes tracks (p .few) in
+      let s = or-none (not (eqb detections (boxes * 4))) (not (eqb corners (tracks * 4))) (or-none (not (eqb detections (boxes * 4)) || not (eqb corners (tracks * 4))) _ (p .sized) .0) in
+      let r = or-none (ltb work32 (4 * (n * n))) (assignmentShort boxes tracks pairs partners unmatchedDetections unmatchedTracks work64) (p .enough) in
       let square : boxes * tracks ≤ n * n = mul-le-mul (greater-left boxes tracks) (greater-right boxes tracks) in
       let floats = ltb-false work32 (4 * (n * n)) (r .0) in
       record {
         cornered = record { few-rows = low .0; few-cols = low .1; detections-fit = same-size detections (boxes * 4) (s .0); corners-fit = same-size corners (tracks * 4) (s .1); room = omega arith };
-        lists = room .0;
-        room-work = room .1;
+        assigned = within-rest (p .few) (p .sized) (r .0) ∙ e;
       }
-
-  pub within-ready : withinVerdict params boxes tracks detections corners trackConfidence detectionConfidence pairs partners unmatchedDetections unmatchedTracks work64 work32 ≡ Accepted
-      → AssociateReady boxes tracks detections corners pairs partners unmatchedDetections unmatchedTracks work64 work32
-  unfolding withinVerdict
-  within-ready e = let p = passed _ _ _ e in ready-of (p .few) (p .sized) (p .enough)
 
   pub associate-ready : (mahalanobis : ℕ) → associateVerdict params boxes tracks detections corners mahalanobis trackConfidence detectionConfidence pairs partners unmatchedDetections unmatchedTracks work64 work32 ≡ Accepted
       → AssociateReady boxes tracks detections corners pairs partners unmatchedDetections unmatchedTracks work64 work32 × (params .«has_mahalanobis» ≡ true → mahalanobis ≡ boxes * tracks)
   unfolding associateVerdict
   associate-ready mahalanobis e =
-      let p = passed _ _ _ e in
+      let p = passed (tooMany boxes tracks) ((params .«has_mahalanobis» && not (eqb mahalanobis (boxes * tracks))) || otherSize params boxes tracks detections corners trackConfidence detectionConfidence)
+      (associateShort boxes tracks pairs partners unmatchedDetections unmatchedTracks work64 work32) e in
       let s = or-none (params .«has_mahalanobis» && not (eqb mahalanobis (boxes * tracks))) (otherSize params boxes tracks detections corners trackConfidence detectionConfidence) (p .sized) in
-      (ready-of (p .few) (s .1) (p .enough), λ h. same-size mahalanobis (boxes * tracks) (ap (λ (b : Bool). b && not (eqb mahalanobis (boxes * tracks))) (sym h) ∙ s .0))
+      (within-ready (associate-rest mahalanobis (p .few) (s .0) ∙ e), λ h. same-size mahalanobis (boxes * tracks) (ap (λ (b : Bool). b && not (eqb mahalanobis (boxes * tracks))) (sym h) ∙ s .0))
 
 -- ---- the matrices: the crate below accepts what is lent
 
@@ -113,6 +112,13 @@ likened has n m distance l {r} {vs} h e f =
 
 pub unlikened : {has : Bool} {n m : ℕ} {distance l : List Float} → has ≡ false → Likened has n m distance l
 unlikened e = record { similar = λ h. absurd (false-not-true (sym e ∙ h)) }
+
+-- a matrix alone has a cell for each box and track
+pub length-matrix : (f : ℕ → ℕ → Float) (n m : ℕ) → length (grid f n m []) ≡ n * m
+length-matrix f n m =
+    let cells : List Float = replicate (n * m) nan in
+    let long : length cells ≡ n * m = length-replicate (n * m) nan in
+    ap length (sym (grid-whole f n m cells long)) ∙ length-grid f n m cells (omega arith) ∙ long
 
 -- the costs of a similarity that agrees with another where it is looked at
 module _ (params : AssociateParams) (n m : ℕ) (detections corners trackConfidence detectionConfidence : List Float) where
@@ -155,21 +161,15 @@ module _ (params : AssociateParams) (n m : ℕ) (detections corners trackConfide
 
 -- ---- the assignment by the two matrices
 
-pub half-ready : {n m pairs partners boxes tracks work64 : ℕ} (l : List Float) → AssociateReady n m (n * 4) (m * 4) pairs partners boxes tracks work64 (length l)
-    → AssignmentReady n m (length (take (n * m + n * m - n * m) (drop (n * m) l))) (length (take (n * m) l)) pairs partners boxes tracks work64
-half-ready {n} {m} l r =
-    let room = r .cornered .room in
-    let behind : length (take (n * m + n * m - n * m) (drop (n * m) l)) ≡ n * m = rw (add-sub-cancel-left (n * m) (n * m)) (length-take-le (n * m) (drop (n * m) l) (rw length-drop (omega arith))) in
-    record { few-rows = r .cornered .few-rows; few-cols = r .cornered .few-cols; long-iou = behind; long-cost = length-take-le (n * m) l (omega arith); room = r .lists; room-work = r .room-work }
-
-pub half-done : (n m : ℕ) (t : Float) (l : List Float) {pb pt dets trks pb′ pt′ dets′ trks′ : List ℕ} {work work′ : List Float} {r : AssignmentCounts}
-    → AssignmentDone (linearAssignment (take (n * m + n * m - n * m) (drop (n * m) l)) (take (n * m) l) n m t) pb pt dets trks work r pb′ pt′ dets′ trks′ work′
-    → AssignmentDone (linearAssignment (take (n * m) (drop (n * m) l)) (take (n * m) l) n m t) pb pt dets trks work r pb′ pt′ dets′ trks′ work′
+-- the second is lent as a part
+pub half-done : (n m : ℕ) (t : Float) (l : List Float) {pb pt dets trks pb′ pt′ dets′ trks′ : List ℕ} {work work′ : List Float} {r : AssignmentAnswer}
+    → AssignmentEnds n m (take (n * m + n * m - n * m) (drop (n * m) l)) (take (n * m) l) t pb pt dets trks work r pb′ pt′ dets′ trks′ work′
+    → AssignmentEnds n m (take (n * m) (drop (n * m) l)) (take (n * m) l) t pb pt dets trks work r pb′ pt′ dets′ trks′ work′
 half-done n m t l d = rw (add-sub-cancel-left (n * m) (n * m)) at d
 
-pub paired-up : (n m : ℕ) (t : Float) {k : ℕ} {cost iou l l₀ : List Float} {pb pt dets trks pb′ pt′ dets′ trks′ : List ℕ} {work work′ l′ : List Float} {r : AssignmentCounts} → Halves k cost iou l
-    → AssignmentDone (linearAssignment (take k (drop k l)) (take k l) n m t) pb pt dets trks work r pb′ pt′ dets′ trks′ work′ → l′ ≡ cleared l → length l ≡ length l₀
-    → AssociateDone (linearAssignment iou cost n m t) pb pt dets trks work l₀ r pb′ pt′ dets′ trks′ work′ l′
+pub paired-up : (n m : ℕ) (t : Float) {k : ℕ} {cost iou l l₀ : List Float} {pb pt dets trks pb′ pt′ dets′ trks′ : List ℕ} {work work′ l′ : List Float} {r : AssignmentAnswer} → Halves k cost iou l
+    → AssignmentEnds n m (take k (drop k l)) (take k l) t pb pt dets trks work r pb′ pt′ dets′ trks′ work′ → l′ ≡ cleared l → length l ≡ length l₀
+    → PairedUp n m iou cost t pb pt dets trks work l₀ r pb′ pt′ dets′ trks′ work′ l′
 paired-up n m t h d e same = record { lists = rw (h .ious-are, h .costs-are) at d; floats = e ∙ ap (tab (λ i. ofBits binary32 0)) same }
 
 -- ---- the definition
@@ -177,13 +177,13 @@ paired-up n m t h d e same = record { lists = rw (h .ious-are, h .costs-are) at 
 -- linear_assignment answers by itself what associate's early returns do
 early : (iou cost : List Float) (n m : ℕ) (t : Float)
     → linearAssignment iou cost n m t ≡ cond (eqb m 0) (assignment [] (indices n) [] 0 0) (cond (eqb n 0) (assignment [] [] (indices m) 0 0) (linearAssignment iou cost n m t))
-unfolding linearAssignment
+unfolding linearAssignment tab
 early iou cost n m t = by-cases (eqb n 0) refl (eqb m 0) refl
   where
     by-cases : (a : Bool) → eqb n 0 ≡ a → (b : Bool) → eqb m 0 ≡ b
         → cond a (assignment [] [] (indices m) 0 0) (cond b (assignment [] (indices n) [] 0 0) (validated iou n m t (matchDetections cost n m t)))
         ≡ cond b (assignment [] (indices n) [] 0 0) (cond a (assignment [] [] (indices m) 0 0) (cond a (assignment [] [] (indices m) 0 0) (cond b (assignment [] (indices n) [] 0 0) (validated iou n m t (matchDetections cost n m t)))))
-    by-cases true e true f = rw (no-indices (eqb-true n 0 e), no-indices (eqb-true m 0 f))
+    by-cases true e true f = rw (eqb-true n 0 e, eqb-true m 0 f)
     by-cases true e false f = refl
     by-cases false e true f = refl
     by-cases false e false f = refl
@@ -201,7 +201,3 @@ module _ (params : AssociateParams) (n m : ℕ) (detections corners distance tra
       ap (λ (cost : List Float). linearAssignment (ious n m detections corners) cost n m (params .«iou_threshold»))
       (costs-ext params n m detections corners trackConfidence detectionConfidence (cellAt nan m cells) (mhDistSimilarity distance one n m) (w .similar))
       ∙ as-linear
-
-  pub associate-accounted : n ≤ 255 → m ≤ 255 → Accounted (ious n m detections corners) n m (params .«iou_threshold») (associate params n m detections corners distance trackConfidence detectionConfidence)
-  associate-accounted few-rows few-cols =
-      rw as-linear at (accounted (ious n m detections corners) (costs params n m detections corners trackConfidence detectionConfidence (mhDistSimilarity distance one n m)) n m (params .«iou_threshold») few-rows few-cols)

@@ -1,133 +1,70 @@
--- The two ends of a public call: refused with nothing changed, and accepted. Assumes nothing.
+-- The two ends of a call of associate: refused with nothing changed, and accepted. Assumes nothing.
 use mathlib.Core.Path.{_≡_, refl, sym, ap, _∙_}
 use mathlib.Core.List.{List}
-use Prim.Native.Nat.{ℕ, _≤_}
+use Prim.Native.Nat.{ℕ, _*_}
+use native.Mathlib.Omega.{arith}
 use lib.Ieee.{Float, nan, binary32, ofBits}
 use lib.ListN.{length}
 use Rattle.laws.specs.Tab.{tab}
 use Rattle.laws.specs.Grid.{cellAt}
 use Rattle.similarity.specs.declared.cost.AssociateParams.{AssociateParams}
 use Rattle.similarity.specs.declared.refusal.Refusal.{Refusal}
-use Rattle.similarity.specs.Refusal.{verdictNumber}
-use Rattle.similarity.specs.Laws.{accepted-of}
 use Rattle.similarity.specs.declared.refusal.Verdict.{Verdict}
 use Rattle.similarity.specs.declared.refusal.Verdict.the-variants.{Accepted, Refused}
-use Rattle.assoc.specs.declared.matching.MatchCounts.{MatchCounts}
-use Rattle.assoc.specs.declared.matching.MatchAnswer.the-variants as match-answer
-use Rattle.assoc.specs.declared.assignment.AssignmentCounts.{AssignmentCounts}
-use Rattle.assoc.specs.declared.assignment.AssignmentAnswer.the-variants as assignment-answer
-use Rattle.assoc.specs.declared.matching.MatchAnswer.{MatchAnswer}
-use Rattle.assoc.specs.declared.assignment.AssignmentAnswer.{AssignmentAnswer}
-use Rattle.assoc.specs.Matching.{Matched, matchDetections}
-use Rattle.assoc.specs.Assignment.{Assignment, linearAssignment}
-use Rattle.assoc.specs.Account.{OneToOne, Accounted}
-use Rattle.assoc.specs.Answers.{matchVerdict, matchAnswer, matchNumber, MatchLeaves, MatchEnds, assignmentVerdict, assignmentAnswer, assignmentNumber, AssignmentLeaves, AssignmentEnds, clearedThen, AssociateEnds}
-use Rattle.assoc.specs.MatchSteps.{MatchDone}
+use Rattle.similarity.specs.Refusal.{verdictNumber}
+use Rattle.similarity.specs.Overlap.{iouBatch}
+use Rattle.similarity.specs.Cost.{costMatrix}
+use Rattle.similarity.specs.Laws.{accepted-of}
+use Rattle.matching.specs.declared.assignment.AssignmentAnswer.{AssignmentAnswer}
+use Rattle.matching.specs.declared.assignment.AssignmentAnswer.the-variants as assignment-answer
+use Rattle.matching.specs.Assignment.{Assignment, linearAssignment}
+use Rattle.matching.specs.Account.{Accounted}
+use Rattle.matching.specs.Answers.{assignmentVerdict, assignmentNumber, AssignmentLeaves}
 use Rattle.assoc.specs.Association.{ious, costs, associate}
-use Rattle.assoc.specs.AssignmentSteps.{AssignmentDone}
-use Rattle.assoc.specs.AssociationSteps.{Likened, AssociateDone}
-use Rattle.assoc.proofs.AnswerLaws.{match-ready, assignment-ready}
-use Rattle.assoc.proofs.AccountLaws.{one-to-one, accounted}
-use Rattle.assoc.proofs.AssociationLaws.{associate-is, associate-accounted}
+use Rattle.assoc.specs.Answers.{AssociateEnds}
+use Rattle.assoc.specs.AssociationSteps.{Likened, PairedUp}
+use Rattle.assoc.proofs.AssociationLaws.{length-matrix, associate-is}
 
--- an answer's number is the verdict's
-match-number : (v : Verdict) (a : Matched) {r : MatchAnswer} → r ≡ matchAnswer v a → matchNumber r ≡ verdictNumber v
-unfolding matchNumber
-match-number Accepted a e = rw e
-match-number (Refused why) a e = rw e
+not-both : {v : Verdict} {why : Refusal} → v ≡ Refused why → v ≡ Accepted → ⊥
+not-both e f = let z : _≡_ {A = ℕ} 0 1 = cc in omega arith
 
-assignment-number : (v : Verdict) (a : Assignment) {r : AssignmentAnswer} → r ≡ assignmentAnswer v a → assignmentNumber r ≡ verdictNumber v
-unfolding assignmentNumber
-assignment-number Accepted a e = rw e
-assignment-number (Refused why) a e = rw e
+-- v is the verdict, and the distances are where the routine finds them
+module _ (params : AssociateParams) (boxes tracks : ℕ) (detections corners distance trackConfidence detectionConfidence : List Float) (v : Verdict) (pb pt dets trks : List ℕ) (work64 work32 : List Float) where
+  abbrev iou : List Float
+  iou = ious boxes tracks detections corners
 
-module _ (boxes tracks : ℕ) (cost : List Float) (threshold : Float) (pairBoxes pairTracks : List ℕ) (work : List Float) where
-  match-facts : matchVerdict boxes tracks (length cost) (length pairBoxes) (length pairTracks) (length work) ≡ Accepted → OneToOne boxes tracks (matchDetections cost boxes tracks threshold)
-  match-facts e =
-      let sides = match-ready boxes tracks (length cost) (length pairBoxes) (length pairTracks) (length work) e .sides in
-      one-to-one cost boxes tracks threshold (sides .few-rows) (sides .few-cols)
-
-  match-ends : {r : MatchAnswer} {pairBoxes′ pairTracks′ : List ℕ} {work′ : List Float}
-      → MatchLeaves (matchVerdict boxes tracks (length cost) (length pairBoxes) (length pairTracks) (length work)) (matchDetections cost boxes tracks threshold) pairBoxes pairTracks work r pairBoxes′ pairTracks′ work′
-      → MatchEnds boxes tracks cost threshold pairBoxes pairTracks work r pairBoxes′ pairTracks′ work′
-  match-ends l =
-      let n = match-number (matchVerdict boxes tracks (length cost) (length pairBoxes) (length pairTracks) (length work)) (matchDetections cost boxes tracks threshold) (l .answer) in
-      record { leaves = l; number-is = n; accepted = λ z. accepted-of _ (sym n ∙ z); facts = λ z. match-facts (accepted-of _ (sym n ∙ z)) }
-
-  pub match-refused : {v : Verdict} {why : Refusal} → v ≡ matchVerdict boxes tracks (length cost) (length pairBoxes) (length pairTracks) (length work) → v ≡ Refused why
-      → MatchEnds boxes tracks cost threshold pairBoxes pairTracks work (match-answer.Refused why) pairBoxes pairTracks work
-  match-refused e f = match-ends (rw (sym e ∙ f) (record { answer = refl; pair-boxes = refl; pair-tracks = refl; work-slice = refl }))
-
-  pub match-accepted : {v : Verdict} {r : MatchCounts} {pairBoxes′ pairTracks′ : List ℕ} {work′ : List Float} → v ≡ matchVerdict boxes tracks (length cost) (length pairBoxes) (length pairTracks) (length work) → v ≡ Accepted
-      → MatchDone (matchDetections cost boxes tracks threshold) pairBoxes pairTracks work r pairBoxes′ pairTracks′ work′
-      → MatchEnds boxes tracks cost threshold pairBoxes pairTracks work (match-answer.Matched r) pairBoxes′ pairTracks′ work′
-  match-accepted e f w = match-ends (rw (sym e ∙ f) (record { answer = ap match-answer.Matched (w .counts); pair-boxes = w .boxes-are; pair-tracks = w .tracks-are; work-slice = w .work-is }))
-
-module _ (boxes tracks : ℕ) (iou cost : List Float) (threshold : Float) (pb pt dets trks : List ℕ) (work : List Float) where
-  assignment-facts : assignmentVerdict boxes tracks (length iou) (length cost) (length pb) (length pt) (length dets) (length trks) (length work) ≡ Accepted → Accounted iou boxes tracks threshold (linearAssignment iou cost boxes tracks threshold)
-  assignment-facts e =
-      let ready = assignment-ready boxes tracks (length iou) (length cost) (length pb) (length pt) (length dets) (length trks) (length work) e in
-      accounted iou cost boxes tracks threshold (ready .few-rows) (ready .few-cols)
-
-  assignment-ends : {r : AssignmentAnswer} {pb′ pt′ dets′ trks′ : List ℕ} {work′ : List Float}
-      → AssignmentLeaves (assignmentVerdict boxes tracks (length iou) (length cost) (length pb) (length pt) (length dets) (length trks) (length work))
-      (linearAssignment iou cost boxes tracks threshold) pb pt dets trks work r pb′ pt′ dets′ trks′ work′
-      → AssignmentEnds boxes tracks iou cost threshold pb pt dets trks work r pb′ pt′ dets′ trks′ work′
-  assignment-ends l =
-      let n = assignment-number (assignmentVerdict boxes tracks (length iou) (length cost) (length pb) (length pt) (length dets) (length trks) (length work)) (linearAssignment iou cost boxes tracks threshold) (l .answer) in
-      record { leaves = l; number-is = n; accepted = λ z. accepted-of _ (sym n ∙ z); facts = λ z. assignment-facts (accepted-of _ (sym n ∙ z)) }
-
-  pub assignment-refused : {v : Verdict} {why : Refusal} → v ≡ assignmentVerdict boxes tracks (length iou) (length cost) (length pb) (length pt) (length dets) (length trks) (length work) → v ≡ Refused why
-      → AssignmentEnds boxes tracks iou cost threshold pb pt dets trks work (assignment-answer.Refused why) pb pt dets trks work
-  assignment-refused e f =
-      assignment-ends (rw (sym e ∙ f) (record { answer = refl; pair-boxes = refl; pair-tracks = refl; unmatched-detections = refl; unmatched-tracks = refl; work-slice = refl }))
-
-  pub assignment-accepted : {v : Verdict} {r : AssignmentCounts} {pb′ pt′ dets′ trks′ : List ℕ} {work′ : List Float} → v ≡ assignmentVerdict boxes tracks (length iou) (length cost) (length pb) (length pt) (length dets) (length trks) (length work) → v ≡ Accepted
-      → AssignmentDone (linearAssignment iou cost boxes tracks threshold) pb pt dets trks work r pb′ pt′ dets′ trks′ work′
-      → AssignmentEnds boxes tracks iou cost threshold pb pt dets trks work (assignment-answer.Assigned r) pb′ pt′ dets′ trks′ work′
-  assignment-accepted e f w = assignment-ends (rw (sym e ∙ f) (record {
-    answer = ap assignment-answer.Assigned (w .counts);
-    pair-boxes = w .pair-boxes;
-    pair-tracks = w .pair-tracks;
-    unmatched-detections = w .left-boxes;
-    unmatched-tracks = w .left-tracks;
-    work-slice = w .work-is;
-  }))
-
--- ---- associate: v is the verdict, and the distances are where the routine finds them
-
-module _ (params : AssociateParams) (boxes tracks : ℕ) (detections corners distance trackConfidence detectionConfidence : List Float) (v : Verdict) (low : v ≡ Accepted → (boxes ≤ 255) × (tracks ≤ 255))
-    (pb pt dets trks : List ℕ) (work64 work32 : List Float) where
   abbrev value : Assignment
   value = associate params boxes tracks detections corners distance trackConfidence detectionConfidence
 
-  associate-ends : {r : AssignmentAnswer} {pb′ pt′ dets′ trks′ : List ℕ} {work64′ work32′ : List Float} → AssignmentLeaves v value pb pt dets trks work64 r pb′ pt′ dets′ trks′ work64′ → work32′ ≡ clearedThen v work32
-      → AssociateEnds v boxes tracks (ious boxes tracks detections corners) (params .«iou_threshold») value pb pt dets trks work64 work32 r pb′ pt′ dets′ trks′ work64′ work32′
-  associate-ends l f =
-      let n = assignment-number v value (l .answer) in
-      let facts : v ≡ Accepted → Accounted (ious boxes tracks detections corners) boxes tracks (params .«iou_threshold») value =
-      λ e. associate-accounted params boxes tracks detections corners distance trackConfidence detectionConfidence (low e .0) (low e .1) in
-      record { leaves = l; floats = f; number-is = n; accepted = λ z. accepted-of _ (sym n ∙ z); facts = λ z. facts (accepted-of _ (sym n ∙ z)) }
-
   pub associate-refused : {u : Verdict} {why : Refusal} → u ≡ v → u ≡ Refused why
-      → AssociateEnds v boxes tracks (ious boxes tracks detections corners) (params .«iou_threshold») value pb pt dets trks work64 work32 (assignment-answer.Refused why) pb pt dets trks work64 work32
-  associate-refused e f =
-      associate-ends (rw (sym e ∙ f) (record { answer = refl; pair-boxes = refl; pair-tracks = refl; unmatched-detections = refl; unmatched-tracks = refl; work-slice = refl })) (rw (sym e ∙ f))
+      → AssociateEnds v boxes tracks iou (params .«iou_threshold») value pb pt dets trks work64 work32 (assignment-answer.Refused why) pb pt dets trks work64 work32
+  unfolding assignmentNumber
+  associate-refused {u} {why} e f =
+      let g : v ≡ Refused why = sym e ∙ f in
+      let n : assignmentNumber (assignment-answer.Refused why) ≡ verdictNumber v = rw g in
+      record {
+        leaves = rw g (record { answer = refl; pair-boxes = refl; pair-tracks = refl; unmatched-detections = refl; unmatched-tracks = refl; work-slice = refl });
+        floats = rw g;
+        number-is = n;
+        accepted = λ z. accepted-of v (sym n ∙ z);
+        facts = λ z. absurd (not-both g (accepted-of v (sym n ∙ z)));
+      }
 
-  pub associate-accepted : {u : Verdict} {cells : List Float} {r : AssignmentCounts} {pb′ pt′ dets′ trks′ : List ℕ} {work64′ work32′ : List Float} → u ≡ v → u ≡ Accepted
+  pub associate-accepted : {u : Verdict} {cells : List Float} {r : AssignmentAnswer} {pb′ pt′ dets′ trks′ : List ℕ} {work64′ work32′ : List Float} → u ≡ v → u ≡ Accepted
+      → assignmentVerdict boxes tracks (boxes * tracks) (boxes * tracks) (length pb) (length pt) (length dets) (length trks) (length work64) ≡ Accepted
       → Likened (params .«has_mahalanobis») boxes tracks distance cells → length cells ≡ length work32
-      → AssociateDone (linearAssignment (ious boxes tracks detections corners) (costs params boxes tracks detections corners trackConfidence detectionConfidence (cellAt nan tracks cells)) boxes tracks (params .«iou_threshold»))
-      pb pt dets trks work64 cells r pb′ pt′ dets′ trks′ work64′ work32′
-      → AssociateEnds v boxes tracks (ious boxes tracks detections corners) (params .«iou_threshold») value pb pt dets trks work64 work32 (assignment-answer.Assigned r) pb′ pt′ dets′ trks′ work64′ work32′
-  associate-accepted {u} {cells} e f like same d =
-      let w = rw (associate-is params boxes tracks detections corners distance trackConfidence detectionConfidence cells like) at (d .lists) in
-      associate-ends
-      (rw (sym e ∙ f) (record {
-        answer = ap assignment-answer.Assigned (w .counts);
-        pair-boxes = w .pair-boxes;
-        pair-tracks = w .pair-tracks;
-        unmatched-detections = w .left-boxes;
-        unmatched-tracks = w .left-tracks;
-        work-slice = w .work-is;
-      }))
-      (rw (sym e ∙ f) (d .floats ∙ ap (tab (λ i. ofBits binary32 0)) same))
+      → PairedUp boxes tracks iou (costs params boxes tracks detections corners trackConfidence detectionConfidence (cellAt nan tracks cells)) (params .«iou_threshold») pb pt dets trks work64 cells r pb′ pt′ dets′ trks′ work64′ work32′
+      → AssociateEnds v boxes tracks iou (params .«iou_threshold») value pb pt dets trks work64 work32 r pb′ pt′ dets′ trks′ work64′ work32′
+  associate-accepted {u} {cells} {r} {pb′} {pt′} {dets′} {trks′} {work64′} e f a like same d =
+      let g : v ≡ Accepted = sym e ∙ f in
+      let cost : List Float = costs params boxes tracks detections corners trackConfidence detectionConfidence (cellAt nan tracks cells) in
+      let s : assignmentVerdict boxes tracks (length iou) (length cost) (length pb) (length pt) (length dets) (length trks) (length work64) ≡ v =
+      rw (length-matrix (iouBatch detections corners) boxes tracks, length-matrix (costMatrix params detections corners trackConfidence detectionConfidence (cellAt nan tracks cells)) boxes tracks) (a ∙ sym g) in
+      let q : linearAssignment iou cost boxes tracks (params .«iou_threshold») ≡ value = associate-is params boxes tracks detections corners distance trackConfidence detectionConfidence cells like in
+      record {
+        leaves = rw (s, q) at (d .lists .leaves);
+        floats = rw g (d .floats ∙ ap (tab (λ i. ofBits binary32 0)) same);
+        number-is = d .lists .number-is ∙ ap verdictNumber s;
+        accepted = λ z. g;
+        facts = λ z. rw q at (d .lists .facts z);
+      }

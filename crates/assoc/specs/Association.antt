@@ -11,7 +11,7 @@ use Rattle.similarity.specs.declared.cost.AssociateParams.{AssociateParams}
 use Rattle.similarity.specs.Overlap.{iouBatch}
 use Rattle.similarity.specs.Mahalanobis.{mhDistSimilarity}
 use Rattle.similarity.specs.Cost.{costMatrix}
-use Rattle.assoc.specs.Assignment.{Assignment, assignment, linearAssignment}
+use Rattle.matching.specs.Assignment.{Assignment, assignment, linearAssignment}
 
 -- iou_matrix, as a list
 abbrev pub ious : ℕ → ℕ → List Float → List Float → List Float

@@ -6,13 +6,11 @@ use Prim.Native.Nat.{ℕ, _*_, _≤_, _<_}
 use lib.Ieee.{Float, nan}
 use lib.ListN.{take, drop}
 use Rattle.laws.specs.Grid.{cellAt}
-use Rattle.laws.specs.Most.{greater}
 use Rattle.floats.specs.Single.{one}
 use Rattle.similarity.specs.Mahalanobis.{mhDistSimilarity}
-use Rattle.assoc.specs.declared.assignment.AssignmentCounts.{AssignmentCounts}
-use Rattle.assoc.specs.Assignment.{Assignment}
+use Rattle.matching.specs.declared.assignment.AssignmentAnswer.{AssignmentAnswer}
+use Rattle.matching.specs.Answers.{AssignmentEnds}
 use Rattle.assoc.specs.Answers.{cleared}
-use Rattle.assoc.specs.AssignmentSteps.{ListRoom, AssignmentDone}
 
 -- corners that fit the sides, and room for two matrices
 pub record Cornered (boxes tracks detections corners cells : ℕ) : Type 0 where
@@ -21,12 +19,6 @@ pub record Cornered (boxes tracks detections corners cells : ℕ) : Type 0 where
   pub detections-fit : detections ≡ boxes * 4
   pub corners-fit : corners ≡ tracks * 4
   pub room : 2 * (boxes * tracks) ≤ cells
-
--- what an accepted call has been found to hold
-pub record AssociateReady (boxes tracks detections corners pairs partners unmatchedDetections unmatchedTracks work64 work32 : ℕ) : Type 0 where
-  pub cornered : Cornered boxes tracks detections corners work32
-  pub lists : ListRoom boxes tracks pairs partners unmatchedDetections unmatchedTracks
-  pub room-work : greater boxes tracks * greater boxes tracks ≤ work64
 
 -- the front of a list holds the similarities of the distances, where there are any
 pub record Likened (has : Bool) (boxes tracks : ℕ) (distance cells : List Float) : Type 0 where
@@ -37,6 +29,8 @@ pub record Halves (n : ℕ) (cost iou cells : List Float) : Type 0 where
   pub costs-are : take n cells ≡ cost
   pub ious-are : take n (drop n cells) ≡ iou
 
-pub record AssociateDone (a : Assignment) (pairBoxes pairTracks boxes tracks : List ℕ) (work64 work32 : List Float) (r : AssignmentCounts) (pairBoxes′ pairTracks′ boxes′ tracks′ : List ℕ) (work64′ work32′ : List Float) : Type 0 where
-  pub lists : AssignmentDone a pairBoxes pairTracks boxes tracks work64 r pairBoxes′ pairTracks′ boxes′ tracks′ work64′
+-- the assignment by two matrices, and the floats cleared
+pub record PairedUp (boxes tracks : ℕ) (iou cost : List Float) (threshold : Float) (pairBoxes pairTracks unmatchedDetections unmatchedTracks : List ℕ) (work64 work32 : List Float)
+    (r : AssignmentAnswer) (pairBoxes′ pairTracks′ unmatchedDetections′ unmatchedTracks′ : List ℕ) (work64′ work32′ : List Float) : Type 0 where
+  pub lists : AssignmentEnds boxes tracks iou cost threshold pairBoxes pairTracks unmatchedDetections unmatchedTracks work64 r pairBoxes′ pairTracks′ unmatchedDetections′ unmatchedTracks′ work64′
   pub floats : work32′ ≡ cleared work32

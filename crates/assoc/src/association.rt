@@ -5,17 +5,15 @@ ghost use Prim.Native.Nat.{_*_, _≤_};
 ghost use lib.ListN.{length, take, drop};
 ghost use lib.Ieee.{nan};
 ghost use Rattle.laws.specs.Grid.{cellAt};
-ghost use Rattle.assoc.specs.Assignment.{linearAssignment};
+ghost use Rattle.matching.specs.Answers.{AssignmentEnds};
 ghost use Rattle.assoc.specs.Association.{ious, costs};
 ghost use Rattle.assoc.specs.Association as Association;
 ghost use Rattle.assoc.specs.Answers.{otherSize, withinVerdict, associateVerdict, cleared, AssociateEnds};
-ghost use Rattle.assoc.specs.AssignmentSteps.{AssignmentDone};
-ghost use Rattle.assoc.specs.AssociationSteps.{Cornered, Likened, Halves, AssociateReady, AssociateDone};
-use crate::assignment::AssignmentAnswer;
-use crate::assignment::AssignmentCounts;
-use crate::assignment::assign_with;
-use crate::assignment::assignment_verdict;
-use crate::matching::larger;
+ghost use Rattle.assoc.specs.AssociationSteps.{Cornered, Likened, Halves, PairedUp};
+use matching::AssignmentAnswer;
+use matching::assignment_verdict;
+use matching::larger;
+use matching::linear_assignment;
 use similarity::AssociateParams;
 use similarity::Refusal;
 use similarity::Verdict;
@@ -203,27 +201,25 @@ fn assign(
     detections: &mut [usize],
     left: &mut [usize],
     work64: &mut [f64],
-) -> AssignmentCounts
-    requires { ⌜ AssociateReady boxes tracks (boxes * 4) (tracks * 4) (length (now «pair_boxes»)) (length (now «pair_tracks»)) (length (now detections)) (length (now left)) (length (now work64)) (length (now cells)) ⌝ }
-    ensures { λ r. ⌜ AssignmentDone (linearAssignment (take (boxes * tracks) (drop (boxes * tracks) (now (cells .entry)))) (take (boxes * tracks) (now (cells .entry))) boxes tracks threshold)
+) -> AssignmentAnswer
+    requires { ⌜ (boxes ≤ 255) × (tracks ≤ 255) × (2 * (boxes * tracks) ≤ length (now cells)) ⌝ }
+    ensures { λ r. ⌜ AssignmentEnds boxes tracks (take (boxes * tracks) (drop (boxes * tracks) (now (cells .entry)))) (take (boxes * tracks) (now (cells .entry))) threshold
         (now («pair_boxes» .entry)) (now («pair_tracks» .entry)) (now (detections .entry)) (now (left .entry)) (now (work64 .entry))
         r (now («pair_boxes» .exit)) (now («pair_tracks» .exit)) (now (detections .exit)) (now (left .exit)) (now (work64 .exit)) ⌝ }
 {
     let half = boxes * tracks;
     let end = half + half;
-    let mut partner = [0u8; 255];
-    assign_with(
-        &cells[half..end],
-        &cells[..half],
+    linear_assignment(
         boxes,
         tracks,
+        &cells[half..end],
+        &cells[..half],
         threshold,
         pair_boxes,
         pair_tracks,
         detections,
         left,
         work64,
-        &mut partner[..boxes],
     )
 }
 
@@ -252,10 +248,10 @@ fn pair_up(
     unmatched_tracks: &mut [usize],
     work64: &mut [f64],
     work32: &mut [f32],
-) -> AssignmentCounts
-    requires { ⌜ AssociateReady boxes tracks (length (now detections)) (length (now corners)) (length (now «pair_boxes»)) (length (now «pair_tracks»)) (length (now «unmatched_detections»)) (length (now «unmatched_tracks»)) (length (now work64)) (length (now work32)) ⌝ }
-    ensures { λ r. ⌜ AssociateDone (linearAssignment (ious boxes tracks (now (detections .entry)) (now (corners .entry)))
-        (costs params boxes tracks (now (detections .entry)) (now (corners .entry)) (now («track_confidence» .entry)) (now («detection_confidence» .entry)) (cellAt nan tracks (now (work32 .entry)))) boxes tracks (params .«iou_threshold»))
+) -> AssignmentAnswer
+    requires { ⌜ Cornered boxes tracks (length (now detections)) (length (now corners)) (length (now work32)) ⌝ }
+    ensures { λ r. ⌜ PairedUp boxes tracks (ious boxes tracks (now (detections .entry)) (now (corners .entry)))
+        (costs params boxes tracks (now (detections .entry)) (now (corners .entry)) (now («track_confidence» .entry)) (now («detection_confidence» .entry)) (cellAt nan tracks (now (work32 .entry)))) (params .«iou_threshold»)
         (now («pair_boxes» .entry)) (now («pair_tracks» .entry)) (now («unmatched_detections» .entry)) (now («unmatched_tracks» .entry)) (now (work64 .entry)) (now (work32 .entry))
         r (now («pair_boxes» .exit)) (now («pair_tracks» .exit)) (now («unmatched_detections» .exit)) (now («unmatched_tracks» .exit)) (now (work64 .exit)) (now (work32 .exit)) ⌝ }
 {
@@ -269,7 +265,7 @@ fn pair_up(
         detection_confidence,
         work32,
     );
-    let counts = assign(
+    let answer = assign(
         work32,
         boxes,
         tracks,
@@ -281,7 +277,7 @@ fn pair_up(
         work64,
     );
     clear_floats(work32);
-    counts
+    answer
 }
 
 // The assignment by the costs of overlap, and of confidences, distances and shapes where there are any.
@@ -328,7 +324,7 @@ pub fn associate(
         return AssignmentAnswer::Refused(why);
     }
     liken(params.has_mahalanobis, boxes, tracks, mahalanobis, work32);
-    let counts = pair_up(
+    pair_up(
         params,
         boxes,
         tracks,
@@ -342,8 +338,7 @@ pub fn associate(
         unmatched_tracks,
         work64,
         work32,
-    );
-    AssignmentAnswer::Assigned(counts)
+    )
 }
 
 // The same with the distances in the front of work32: for a caller that has computed them there.
@@ -388,7 +383,7 @@ pub fn associate_within(
         return AssignmentAnswer::Refused(why);
     }
     liken_within(params.has_mahalanobis, boxes, tracks, work32);
-    let counts = pair_up(
+    pair_up(
         params,
         boxes,
         tracks,
@@ -402,6 +397,5 @@ pub fn associate_within(
         unmatched_tracks,
         work64,
         work32,
-    );
-    AssignmentAnswer::Assigned(counts)
+    )
 }

@@ -1,15 +1,13 @@
 // The pairing of boxes and tracks: the port of assoc.rs, over lent flat slices. A matrix is flat, row by row: a row for each detection, a cell for each track.
-mod assignment;
 mod association;
-mod matching;
 
-pub use assignment::AssignmentAnswer;
-pub use assignment::AssignmentCounts;
-pub use assignment::linear_assignment;
 pub use association::associate;
 pub use association::associate_within;
+pub use matching::AssignmentAnswer;
+pub use matching::AssignmentCounts;
 pub use matching::MatchAnswer;
 pub use matching::MatchCounts;
+pub use matching::linear_assignment;
 pub use matching::match_detections;
 pub use similarity::AssociateParams;
 pub use similarity::Refusal;

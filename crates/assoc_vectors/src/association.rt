@@ -1,11 +1,13 @@
 // Calls of associate.
 ghost use Prim.Native.Nat.{_≤_};
-use crate::digest;
+ghost use Rattle.assoc_vectors.specs.Room.{Within};
 use crate::inputs;
 use crate::pairs;
+use crate::pairs::Room;
 use crate::text;
 use crate::text::Routine;
 use similarity::AssociateParams;
+use vectors::digest;
 
 // What a call is made of. The flags: 1 distances, 2 confidences, 4 the corrected shape.
 pub(crate) struct Call {
@@ -72,14 +74,10 @@ fn lent(
     distance: &[f32],
     of_tracks: &[f32],
     of_boxes: &[f32],
-    firsts: usize,
-    seconds: usize,
-    lefts: usize,
-    rights: usize,
-    doubles: usize,
+    room: Room,
     floats: usize,
 )
-    requires { ⌜ (firsts ≤ 257) × (seconds ≤ 257) × (lefts ≤ 257) × (rights ≤ 257) × (doubles ≤ 65538) × (floats ≤ 262146) ⌝ }
+    requires { ⌜ Within room × (floats ≤ 262146) ⌝ }
 {
     let mut pair_boxes = [7777usize; 257];
     let mut pair_tracks = [7777usize; 257];
@@ -94,25 +92,25 @@ fn lent(
         distance,
         of_tracks,
         of_boxes,
-        &mut pair_boxes[..firsts],
-        &mut pair_tracks[..seconds],
-        &mut left_boxes[..lefts],
-        &mut left_tracks[..rights],
-        &mut work64[..doubles],
+        &mut pair_boxes[..room.firsts],
+        &mut pair_tracks[..room.seconds],
+        &mut left_boxes[..room.lefts],
+        &mut left_tracks[..room.rights],
+        &mut work64[..room.doubles],
         &mut work32[..floats],
     );
 }
 
 fn fill_boxes(call: Call, detections: &mut [f32], corners: &mut [f32]) -> u64 {
     let kind = call.kind;
-    inputs::corners(
+    inputs::fill(
         inputs::DETECTIONS,
         kind,
         call.boxes,
         call.tracks,
         detections,
     );
-    inputs::corners(inputs::CORNERS, kind, call.boxes, call.tracks, corners);
+    inputs::fill(inputs::CORNERS, kind, call.boxes, call.tracks, corners);
     digest::floats(digest::floats(digest::START, detections), corners)
 }
 
@@ -125,15 +123,15 @@ fn fill_options(
 ) -> u64 {
     let far = inputs::distance_kind(call.kind, call.boxes);
     let sure = inputs::confidence_kind(call.kind);
-    inputs::cells(inputs::DISTANCE, far, call.boxes, call.tracks, distance);
-    inputs::cells(
+    inputs::fill(inputs::DISTANCE, far, call.boxes, call.tracks, distance);
+    inputs::fill(
         inputs::TRACK_CONFIDENCE,
         sure,
         call.boxes,
         call.tracks,
         of_tracks,
     );
-    inputs::cells(
+    inputs::fill(
         inputs::DETECTION_CONFIDENCE,
         sure,
         call.boxes,
@@ -169,14 +167,10 @@ fn with_inputs(
     distance: &mut [f32],
     of_tracks: &mut [f32],
     of_boxes: &mut [f32],
-    firsts: usize,
-    seconds: usize,
-    lefts: usize,
-    rights: usize,
-    doubles: usize,
+    room: Room,
     floats: usize,
 )
-    requires { ⌜ (firsts ≤ 257) × (seconds ≤ 257) × (lefts ≤ 257) × (rights ≤ 257) × (doubles ≤ 65538) × (floats ≤ 262146) ⌝ }
+    requires { ⌜ Within room × (floats ≤ 262146) ⌝ }
 {
     given(call, detections, corners, distance, of_tracks, of_boxes);
     lent(
@@ -186,11 +180,7 @@ fn with_inputs(
         distance,
         of_tracks,
         of_boxes,
-        firsts,
-        seconds,
-        lefts,
-        rights,
-        doubles,
+        room,
         floats,
     );
 }
@@ -203,15 +193,11 @@ pub(crate) fn associating(
     distances: usize,
     of_tracks: usize,
     of_boxes: usize,
-    firsts: usize,
-    seconds: usize,
-    lefts: usize,
-    rights: usize,
-    doubles: usize,
+    room: Room,
     floats: usize,
 )
     requires { ⌜ (detections ≤ 1024) × (corners ≤ 1024) × (distances ≤ 65028) × («of_tracks» ≤ 257) × («of_boxes» ≤ 257) ⌝ }
-    requires { ⌜ (firsts ≤ 257) × (seconds ≤ 257) × (lefts ≤ 257) × (rights ≤ 257) × (doubles ≤ 65538) × (floats ≤ 262146) ⌝ }
+    requires { ⌜ Within room × (floats ≤ 262146) ⌝ }
 {
     let mut det = [0.0f32; 1024];
     let mut trk = [0.0f32; 1024];
@@ -225,11 +211,7 @@ pub(crate) fn associating(
         &mut distance[..distances],
         &mut trk_sure[..of_tracks],
         &mut det_sure[..of_boxes],
-        firsts,
-        seconds,
-        lefts,
-        rights,
-        doubles,
+        room,
         floats,
     );
 }

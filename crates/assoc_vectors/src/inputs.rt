@@ -1,6 +1,10 @@
 // The inputs: a slice of a call, a kind and the two sides give each float of it, from its place and a
 // random number. oracle/assoc/inputs.rs makes the same.
 ghost use Prim.Native.Nat.{_<_};
+use vectors::floats::float_of;
+use vectors::floats::real;
+use vectors::random::next;
+use vectors::random::part;
 
 pub(crate) const KINDS: usize = 13;
 
@@ -15,7 +19,7 @@ const LIMIT: usize = 10;
 
 const WIDE: usize = 11;
 
-// Which slice of a call.
+// Which slice of a call. The first two hold corners of boxes, the others cells of matrices.
 pub(crate) const DETECTIONS: u64 = 0;
 
 pub(crate) const CORNERS: u64 = 1;
@@ -32,45 +36,15 @@ pub(crate) const DETECTION_CONFIDENCE: u64 = 6;
 
 // ---- random numbers
 
-// One step of a xorshift generator of 64 bits, and of a digest.
-pub(crate) fn next(r: u64) -> u64 {
-    let a = r ^ (r << 13);
-    let b = a ^ (a >> 7);
-    b ^ (b << 17)
-}
-
 // Where the random numbers of a slice start.
 fn seed(slice: u64, kind: usize, boxes: usize, tracks: usize) -> u64 {
     let sides = ((boxes as u64) << 32) ^ ((tracks as u64) << 16);
     next(next(88172645463325252 ^ sides ^ ((kind as u64) << 8) ^ slice))
 }
 
-// 16 of a random number's bits, from 0 to 65535.
-fn part(r: u64, k: usize) -> u64 {
-    match k {
-        0 => r % 65536,
-        1 => r / 65536 % 65536,
-        2 => r / 0x1_0000_0000 % 65536,
-        _ => r / 0x1_0000_0000_0000 % 65536,
-    }
-}
-
-// A float of a number below 2^24.
-fn real(p: u64) -> f32 {
-    std::num::nearest_u32_to_f32((p % 16777216) as u32)
-}
-
 // A random number from 0 up to 1.
 fn unit(r: u64) -> f32 {
     real(r / 0x100_0000_0000) / 16777216.0
-}
-
-// The f32 of a pattern, and one NaN for every pattern that is a NaN.
-fn float_of(bits: u32) -> f32 {
-    if bits % 0x8000_0000 > 0x7f80_0000 {
-        return 0.0 / 0.0;
-    }
-    f32::from_bits(bits)
 }
 
 // Any bit pattern.
@@ -148,23 +122,6 @@ fn corner(kind: usize, i: usize, k: usize, r: u64) -> f32 {
     }
 }
 
-// A new random number at the start of a box.
-fn next_box(k: usize, r: u64) -> u64 {
-    if k % 4 == 0 {
-        return next(r);
-    }
-    r
-}
-
-// Fills a slice with corners, four a box.
-pub(crate) fn corners(slice: u64, kind: usize, boxes: usize, tracks: usize, out: &mut [f32]) {
-    let mut r = seed(slice, kind, boxes, tracks);
-    for k in 0..out.len() {
-        r = next_box(k, r);
-        out[k] = corner(kind, k / 4, k % 4, r);
-    }
-}
-
 // ---- matrices and confidences
 
 // High in one cell of each row, low in the others.
@@ -219,13 +176,31 @@ fn at_least_one(tracks: usize) -> usize
     tracks
 }
 
-// Fills a slice with the cells of a matrix, row by row.
-pub(crate) fn cells(slice: u64, kind: usize, boxes: usize, tracks: usize, out: &mut [f32]) {
-    let mut r = seed(slice, kind, boxes, tracks);
+// ---- a slice
+
+// A new random number for each box, or for each cell.
+fn drawn(slice: u64, k: usize, r: u64) -> u64 {
+    if slice <= CORNERS && k % 4 != 0 {
+        return r;
+    }
+    next(r)
+}
+
+// The float at place k: boxes have four corners each, matrices lie row by row.
+fn float_at(slice: u64, kind: usize, tracks: usize, k: usize, r: u64) -> f32 {
+    if slice <= CORNERS {
+        return corner(kind, k / 4, k % 4, r);
+    }
     let columns = at_least_one(tracks);
+    cell(kind, k / columns, k % columns, columns, r)
+}
+
+// Fills a slice of a call.
+pub(crate) fn fill(slice: u64, kind: usize, boxes: usize, tracks: usize, out: &mut [f32]) {
+    let mut r = seed(slice, kind, boxes, tracks);
     for k in 0..out.len() {
-        r = next(r);
-        out[k] = cell(kind, k / columns, k % columns, columns, r);
+        r = drawn(slice, k, r);
+        out[k] = float_at(slice, kind, tracks, k, r);
     }
 }
 

@@ -5,7 +5,6 @@
 ghost use Prim.Native.Nat.{_+_, _≤_};
 
 mod association;
-mod digest;
 mod inputs;
 mod matrices;
 mod pairs;
@@ -13,6 +12,7 @@ mod refusals;
 mod text;
 
 use crate::association::Call;
+use crate::pairs::room_of;
 use crate::text::Routine;
 
 // ---- lengths
@@ -79,11 +79,7 @@ fn assigned(kind: usize, boxes: usize, tracks: usize)
         tracks,
         cells,
         cells,
-        few,
-        few,
-        boxes + more,
-        tracks + more,
-        area(n, n) + more,
+        room_of(few, few, boxes + more, tracks + more, area(n, n) + more),
     );
 }
 
@@ -136,11 +132,7 @@ fn associated(kind: usize, boxes: usize, tracks: usize, flags: usize)
         where_given(flags, cells, 3),
         where_given(flags / 2, tracks, 2),
         where_given(flags / 2, boxes, 2),
-        few,
-        few,
-        boxes + more,
-        tracks + more,
-        square + more,
+        room_of(few, few, boxes + more, tracks + more, square + more),
         square * 4 + more,
     );
 }

@@ -1,10 +1,10 @@
 // Calls of the routines that fill a matrix.
 ghost use Prim.Native.Nat.{_≤_};
-use crate::digest;
 use crate::inputs;
 use crate::text;
 use crate::text::Routine;
 use similarity::Verdict;
+use vectors::digest;
 
 // What a cell of `out` holds before the call.
 const CELL: f32 = 7.0;
@@ -55,10 +55,10 @@ fn measured(
     confidences: &mut [f32],
     out: &mut [f32],
 ) {
-    inputs::corners(inputs::DETECTIONS, kind, boxes, tracks, detections);
-    inputs::corners(inputs::CORNERS, kind, boxes, tracks, corners);
+    inputs::fill(inputs::DETECTIONS, kind, boxes, tracks, detections);
+    inputs::fill(inputs::CORNERS, kind, boxes, tracks, corners);
     let of_confidences = inputs::confidence_kind(kind);
-    inputs::cells(
+    inputs::fill(
         inputs::TRACK_CONFIDENCE,
         of_confidences,
         boxes,
@@ -110,7 +110,7 @@ pub(crate) fn measure(
 }
 
 fn softened(kind: usize, boxes: usize, tracks: usize, distance: &mut [f32], out: &mut [f32]) {
-    inputs::cells(inputs::DISTANCE, kind, boxes, tracks, distance);
+    inputs::fill(inputs::DISTANCE, kind, boxes, tracks, distance);
     text::head(Routine::MhDistSimilarity, kind, boxes, tracks);
     text::digest(digest::floats(digest::START, distance));
     let temperature = inputs::temperature(kind, boxes);

@@ -1,10 +1,11 @@
 // Calls of match_detections and linear_assignment.
 ghost use Prim.Native.Nat.{_≤_};
-use crate::digest;
+ghost use Rattle.assoc_vectors.specs.Room.{Within};
 use crate::inputs;
 use crate::text;
 use crate::text::Routine;
 use crate::text::Said;
+use vectors::digest;
 
 // Calls match_detections and prints what it answers and leaves.
 fn matched(
@@ -44,7 +45,7 @@ fn match_costs(
     pair_tracks: &mut [usize],
     work: &mut [f64],
 ) {
-    inputs::cells(inputs::COST, kind, boxes, tracks, cost);
+    inputs::fill(inputs::COST, kind, boxes, tracks, cost);
     text::head(Routine::MatchDetections, kind, boxes, tracks);
     text::digest(digest::floats(digest::START, cost));
     matched(kind, boxes, tracks, cost, pair_boxes, pair_tracks, work);
@@ -75,6 +76,34 @@ pub(crate) fn matching(
         &mut pair_tracks[..seconds],
         &mut space[..work],
     );
+}
+
+// The lengths that are lent for an assignment's results: the four lists, and the doubles to work in.
+pub(crate) struct Room {
+    pub(crate) firsts: usize,
+    pub(crate) seconds: usize,
+    pub(crate) lefts: usize,
+    pub(crate) rights: usize,
+    pub(crate) doubles: usize,
+}
+
+pub(crate) fn room_of(
+    firsts: usize,
+    seconds: usize,
+    lefts: usize,
+    rights: usize,
+    doubles: usize,
+) -> Room
+    requires { ⌜ (firsts ≤ 257) × (seconds ≤ 257) × (lefts ≤ 257) × (rights ≤ 257) × (doubles ≤ 65538) ⌝ }
+    ensures { λ r. ⌜ Within r ⌝ }
+{
+    Room {
+        firsts,
+        seconds,
+        lefts,
+        rights,
+        doubles,
+    }
 }
 
 // The four lists of an assignment, and a digest of every cell that was lent for them.
@@ -126,8 +155,8 @@ fn assigned(
 }
 
 fn matrices(kind: usize, boxes: usize, tracks: usize, iou: &mut [f32], cost: &mut [f32]) {
-    inputs::cells(inputs::IOU, kind, boxes, tracks, iou);
-    inputs::cells(inputs::COST, kind, boxes, tracks, cost);
+    inputs::fill(inputs::IOU, kind, boxes, tracks, iou);
+    inputs::fill(inputs::COST, kind, boxes, tracks, cost);
     text::head(Routine::LinearAssignment, kind, boxes, tracks);
     text::digest(digest::floats(digest::floats(digest::START, iou), cost));
 }
@@ -166,13 +195,9 @@ pub(crate) fn assigning(
     tracks: usize,
     ious: usize,
     costs: usize,
-    firsts: usize,
-    seconds: usize,
-    detections: usize,
-    left: usize,
-    work: usize,
+    room: Room,
 )
-    requires { ⌜ (ious ≤ 65027) × (costs ≤ 65027) × (firsts ≤ 257) × (seconds ≤ 257) × (detections ≤ 257) × (left ≤ 257) × (work ≤ 65538) ⌝ }
+    requires { ⌜ (ious ≤ 65027) × (costs ≤ 65027) × Within room ⌝ }
 {
     let mut iou = [0.0f32; 65027];
     let mut cost = [0.0f32; 65027];
@@ -187,10 +212,10 @@ pub(crate) fn assigning(
         tracks,
         &mut iou[..ious],
         &mut cost[..costs],
-        &mut pair_boxes[..firsts],
-        &mut pair_tracks[..seconds],
-        &mut left_boxes[..detections],
-        &mut left_tracks[..left],
-        &mut space[..work],
+        &mut pair_boxes[..room.firsts],
+        &mut pair_tracks[..room.seconds],
+        &mut left_boxes[..room.lefts],
+        &mut left_tracks[..room.rights],
+        &mut space[..room.doubles],
     );
 }

@@ -1,11 +1,14 @@
 // Calls that are turned down. Two boxes and three tracks, but for one length, or for a side above 255: the
 // number, and every lent cell as it was.
 ghost use Prim.Native.Nat.{_≤_};
+ghost use Rattle.assoc_vectors.specs.Room.{Within};
 use crate::association;
 use crate::association::Call;
 use crate::inputs::CROWD;
 use crate::matrices;
 use crate::pairs;
+use crate::pairs::Room;
+use crate::pairs::room_of;
 use crate::text;
 use crate::text::Routine;
 
@@ -109,49 +112,28 @@ fn of_matching() {
     refuse_matched(0, 3, 0, 0, 0, 8);
 }
 
-fn refuse_assigned(
-    boxes: usize,
-    tracks: usize,
-    ious: usize,
-    costs: usize,
-    firsts: usize,
-    seconds: usize,
-    detections: usize,
-    left: usize,
-    work: usize,
-)
-    requires { ⌜ (ious ≤ 65027) × (costs ≤ 65027) × (firsts ≤ 257) × (seconds ≤ 257) × (detections ≤ 257) × (left ≤ 257) × (work ≤ 65538) ⌝ }
+fn refuse_assigned(boxes: usize, tracks: usize, ious: usize, costs: usize, room: Room)
+    requires { ⌜ (ious ≤ 65027) × (costs ≤ 65027) × Within room ⌝ }
 {
     text::refusal();
-    three(ious, costs, firsts);
-    three(seconds, detections, left);
-    text::number(work);
+    three(ious, costs, room.firsts);
+    three(room.seconds, room.lefts, room.rights);
+    text::number(room.doubles);
     text::space();
-    pairs::assigning(
-        CROWD,
-        boxes,
-        tracks,
-        ious,
-        costs,
-        firsts,
-        seconds,
-        detections,
-        left,
-        work,
-    );
+    pairs::assigning(CROWD, boxes, tracks, ious, costs, room);
 }
 
 fn of_assignment() {
-    refuse_assigned(256, 3, 768, 768, 3, 3, 256, 3, 65536);
-    refuse_assigned(3, 256, 768, 768, 3, 3, 3, 256, 65536);
-    refuse_assigned(2, 3, 5, 6, 2, 2, 2, 3, 9);
-    refuse_assigned(2, 3, 6, 7, 2, 2, 2, 3, 8);
-    refuse_assigned(2, 3, 6, 6, 1, 2, 2, 3, 9);
-    refuse_assigned(2, 3, 6, 6, 2, 1, 2, 3, 9);
-    refuse_assigned(2, 3, 6, 6, 2, 2, 1, 3, 9);
-    refuse_assigned(2, 3, 6, 6, 2, 2, 2, 2, 9);
-    refuse_assigned(2, 3, 6, 6, 2, 2, 2, 3, 8);
-    refuse_assigned(3, 0, 0, 0, 0, 0, 3, 0, 8);
+    refuse_assigned(256, 3, 768, 768, room_of(3, 3, 256, 3, 65536));
+    refuse_assigned(3, 256, 768, 768, room_of(3, 3, 3, 256, 65536));
+    refuse_assigned(2, 3, 5, 6, room_of(2, 2, 2, 3, 9));
+    refuse_assigned(2, 3, 6, 7, room_of(2, 2, 2, 3, 8));
+    refuse_assigned(2, 3, 6, 6, room_of(1, 2, 2, 3, 9));
+    refuse_assigned(2, 3, 6, 6, room_of(2, 1, 2, 3, 9));
+    refuse_assigned(2, 3, 6, 6, room_of(2, 2, 1, 3, 9));
+    refuse_assigned(2, 3, 6, 6, room_of(2, 2, 2, 2, 9));
+    refuse_assigned(2, 3, 6, 6, room_of(2, 2, 2, 3, 8));
+    refuse_assigned(3, 0, 0, 0, room_of(0, 0, 3, 0, 8));
 }
 
 fn sides(boxes: usize, tracks: usize, flags: usize) -> Call {
@@ -170,21 +152,17 @@ fn refuse_associated(
     distances: usize,
     sure_tracks: usize,
     sure_boxes: usize,
-    firsts: usize,
-    seconds: usize,
-    lefts: usize,
-    rights: usize,
-    doubles: usize,
+    room: Room,
     floats: usize,
 )
     requires { ⌜ (detections ≤ 1024) × (corners ≤ 1024) × (distances ≤ 65028) × («sure_tracks» ≤ 257) × («sure_boxes» ≤ 257) ⌝ }
-    requires { ⌜ (firsts ≤ 257) × (seconds ≤ 257) × (lefts ≤ 257) × (rights ≤ 257) × (doubles ≤ 65538) × (floats ≤ 262146) ⌝ }
+    requires { ⌜ Within room × (floats ≤ 262146) ⌝ }
 {
     text::refusal();
     three(detections, corners, distances);
-    three(sure_tracks, sure_boxes, firsts);
-    three(seconds, lefts, rights);
-    text::number(doubles);
+    three(sure_tracks, sure_boxes, room.firsts);
+    three(room.seconds, room.lefts, room.rights);
+    text::number(room.doubles);
     text::number(floats);
     text::space();
     association::associating(
@@ -194,11 +172,7 @@ fn refuse_associated(
         distances,
         sure_tracks,
         sure_boxes,
-        firsts,
-        seconds,
-        lefts,
-        rights,
-        doubles,
+        room,
         floats,
     );
 }
@@ -212,11 +186,7 @@ fn of_association() {
         768,
         3,
         256,
-        3,
-        3,
-        256,
-        3,
-        65536,
+        room_of(3, 3, 256, 3, 65536),
         262144,
     );
     refuse_associated(
@@ -226,30 +196,26 @@ fn of_association() {
         0,
         0,
         0,
-        2,
-        2,
-        2,
-        256,
-        65536,
+        room_of(2, 2, 2, 256, 65536),
         262144,
     );
-    refuse_associated(sides(2, 3, 0), 7, 12, 0, 0, 0, 2, 2, 2, 3, 9, 36);
-    refuse_associated(sides(2, 3, 0), 8, 13, 0, 0, 0, 2, 2, 2, 3, 9, 36);
-    refuse_associated(sides(2, 3, 1), 8, 12, 5, 0, 0, 2, 2, 2, 3, 9, 36);
-    refuse_associated(sides(2, 3, 2), 8, 12, 0, 2, 2, 2, 2, 2, 3, 9, 36);
-    refuse_associated(sides(2, 3, 2), 8, 12, 0, 3, 3, 2, 2, 2, 3, 9, 36);
+    refuse_associated(sides(2, 3, 0), 7, 12, 0, 0, 0, room_of(2, 2, 2, 3, 9), 36);
+    refuse_associated(sides(2, 3, 0), 8, 13, 0, 0, 0, room_of(2, 2, 2, 3, 9), 36);
+    refuse_associated(sides(2, 3, 1), 8, 12, 5, 0, 0, room_of(2, 2, 2, 3, 9), 36);
+    refuse_associated(sides(2, 3, 2), 8, 12, 0, 2, 2, room_of(2, 2, 2, 3, 9), 36);
+    refuse_associated(sides(2, 3, 2), 8, 12, 0, 3, 3, room_of(2, 2, 2, 3, 9), 36);
 }
 
 // Each list and each work slice in turn one place too short.
 fn of_association_room() {
-    refuse_associated(sides(2, 3, 7), 8, 12, 6, 3, 2, 1, 2, 2, 3, 9, 36);
-    refuse_associated(sides(2, 3, 7), 8, 12, 6, 3, 2, 2, 1, 2, 3, 9, 36);
-    refuse_associated(sides(2, 3, 7), 8, 12, 6, 3, 2, 2, 2, 1, 3, 9, 36);
-    refuse_associated(sides(2, 3, 7), 8, 12, 6, 3, 2, 2, 2, 2, 2, 9, 36);
-    refuse_associated(sides(2, 3, 7), 8, 12, 6, 3, 2, 2, 2, 2, 3, 8, 36);
-    refuse_associated(sides(2, 3, 7), 8, 12, 6, 3, 2, 2, 2, 2, 3, 9, 35);
-    refuse_associated(sides(3, 0, 0), 12, 0, 0, 0, 0, 0, 0, 3, 0, 9, 35);
-    refuse_associated(sides(0, 3, 3), 0, 12, 1, 3, 0, 0, 0, 0, 3, 9, 36);
+    refuse_associated(sides(2, 3, 7), 8, 12, 6, 3, 2, room_of(1, 2, 2, 3, 9), 36);
+    refuse_associated(sides(2, 3, 7), 8, 12, 6, 3, 2, room_of(2, 1, 2, 3, 9), 36);
+    refuse_associated(sides(2, 3, 7), 8, 12, 6, 3, 2, room_of(2, 2, 1, 3, 9), 36);
+    refuse_associated(sides(2, 3, 7), 8, 12, 6, 3, 2, room_of(2, 2, 2, 2, 9), 36);
+    refuse_associated(sides(2, 3, 7), 8, 12, 6, 3, 2, room_of(2, 2, 2, 3, 8), 36);
+    refuse_associated(sides(2, 3, 7), 8, 12, 6, 3, 2, room_of(2, 2, 2, 3, 9), 35);
+    refuse_associated(sides(3, 0, 0), 12, 0, 0, 0, 0, room_of(0, 0, 3, 0, 9), 35);
+    refuse_associated(sides(0, 3, 3), 0, 12, 1, 3, 0, room_of(0, 0, 0, 3, 9), 36);
 }
 
 pub(crate) fn all() {

@@ -1,9 +1,9 @@
 // What is printed: a line for each call, words and numbers with a space between them.
-use crate::digest::bits;
 use assoc::AssignmentAnswer;
 use assoc::MatchAnswer;
 use similarity::Refusal;
 use similarity::Verdict;
+use vectors::floats;
 
 // What an answer says: the scope document's number, 0 where the call is accepted, and the counts.
 pub(crate) struct Said {
@@ -161,7 +161,7 @@ fn entry(s: &[usize], k: usize) {
 
 fn float(x: f32) {
     space();
-    io::print_hex(1, bits(x) as u64, 8);
+    io::print_hex(1, floats::word(x), 8);
 }
 
 // Every cell of a matrix that is lent in at most 10.

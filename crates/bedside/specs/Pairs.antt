@@ -9,9 +9,10 @@ use Rattle.similarity.specs.Sizes.{after}
 use Rattle.similarity.specs.declared.refusal.Verdict.{Verdict}
 use Rattle.similarity.specs.declared.cost.AssociateParams.{AssociateParams}
 use Rattle.assoc.specs.Association.{ious, associate}
-use Rattle.assoc.specs.Answers.{matchNumber, matchValues, MatchEnds, assignmentNumber, assignmentValues, AssignmentEnds, associateVerdict, AssociateEnds}
-use Rattle.assoc.specs.declared.matching.MatchAnswer.{MatchAnswer}
-use Rattle.assoc.specs.declared.assignment.AssignmentAnswer.{AssignmentAnswer}
+use Rattle.matching.specs.Answers.{matchNumber, matchValues, MatchEnds, assignmentNumber, assignmentValues, AssignmentEnds}
+use Rattle.assoc.specs.Answers.{associateVerdict, AssociateEnds}
+use Rattle.matching.specs.declared.matching.MatchAnswer.{MatchAnswer}
+use Rattle.matching.specs.declared.assignment.AssignmentAnswer.{AssignmentAnswer}
 use Rattle.bedside.specs.declared.pairs.Matched.{Matched}
 use Rattle.bedside.specs.declared.pairs.Assignment.{Assignment}
 

@@ -1,9 +1,2 @@
 -- Laws that the proofs of several functions cite.
-pub mod GatherLaws
-pub mod BoostLaws
-pub mod RetainLaws
-pub mod PairLaws
-pub mod SettleLaws
-pub mod SettledLaws
-pub mod FactLaws
 pub mod FrameLaws

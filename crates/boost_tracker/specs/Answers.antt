@@ -6,7 +6,8 @@ use lib.ListN.{length}
 use lib.Ieee.{Float}
 use Rattle.laws.specs.Laid.{laid}
 use Rattle.floats.specs.Single.{zero}
-use Rattle.assoc.specs.Answers.{zeroed, cleared}
+use Rattle.matching.specs.Answers.{zeroed}
+use Rattle.assoc.specs.Answers.{cleared}
 use Rattle.table.specs.declared.refusal.Verdict.{Verdict}
 use Rattle.table.specs.declared.refusal.Verdict.the-variants.{Accepted, Refused}
 use Rattle.table.specs.declared.settings.Settings.{Settings}
@@ -15,8 +16,8 @@ use Rattle.table.specs.Table.{capacity, tracks, floatsOf, countersOf, filledUp}
 use Rattle.table.specs.Record.{recordBytes}
 use Rattle.table.specs.Frame.{answer, verdict}
 use Rattle.boost_tracker.specs.declared.frame.UpdateAnswer.{UpdateAnswer}
-use Rattle.boost_tracker.specs.Update.{Stages, update, stateAfter}
-use Rattle.boost_tracker.specs.Facts.{FrameFacts}
+use Rattle.boost_tracker_definition.specs.Update.{Stages, update, stateAfter}
+use Rattle.boost_tracker_definition.specs.Facts.{FrameFacts}
 
 -- ---- the answer
 

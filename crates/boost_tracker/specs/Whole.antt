@@ -20,7 +20,7 @@ use Rattle.table.specs.Table.{capacity, tracks}
 use Rattle.table.specs.Sound.{soundTable}
 use Rattle.table.specs.Frame.{answer, workable, settingFloats, badBoxAt, boxesIn, ofTable, ofBoxes, ofRoom, orElse, verdict}
 use Rattle.boost_tracker.specs.declared.frame.UpdateAnswer.{UpdateAnswer}
-use Rattle.boost_tracker.specs.Update.{Stages, update}
+use Rattle.boost_tracker_definition.specs.Update.{Stages, update}
 use Rattle.boost_tracker.specs.Answers.{refusedAnswer, acceptedAnswer, UpdateLeaves, UpdateEnds}
 
 -- lent memory, before or after a call

@@ -1,21 +1,12 @@
-// A frame: the verdict on it, and where it is accepted its steps in the Rust's order.
-use crate::boost::boost;
-use crate::gather::gather;
-use crate::settle::retain;
-use crate::settle::settle;
-use assoc::AssignmentCounts;
+// A frame: its steps 1 to 7, and where it is accepted step 8, the output and the tracks that are retained.
+use stages::Advanced;
+use stages::advance;
 use table::Settings;
 use table::State;
 use table::Verdict;
 ghost use mathlib.Core.Path.{_≡_};
-ghost use Prim.Native.Nat.{_+_, _*_};
-ghost use lib.ListN.{length};
-ghost use Rattle.table.specs.Table.{tracks};
-ghost use Rattle.table.specs.Frame.{boxesIn};
-ghost use Rattle.table.specs.Ready.{Ready};
-ghost use Rattle.boost_tracker.specs.Update.{steps};
-ghost use Rattle.boost_tracker.specs.Steps.{Lent, TrackRoom, SinceLow, Tracked};
-ghost use Rattle.boost_tracker.specs.Answers.{refusedAnswer, UpdateDone, UpdateEnds};
+ghost use Rattle.boost_tracker.specs.Steps.{FinishRoom, Finished};
+ghost use Rattle.boost_tracker.specs.Answers.{refusedAnswer, UpdateEnds};
 
 // The state is the new one, or the one given where the frame is refused; the counts are 0 there.
 pub struct UpdateAnswer {
@@ -27,152 +18,36 @@ pub struct UpdateAnswer {
     pub scans: usize,
 }
 
-fn track_with(
-    settings: Settings,
-    frame: u64,
-    last: u64,
-    held: usize,
-    floats: &mut [f32],
-    counters: &mut [u64],
-    objects: &[f32],
-    corners: &mut [f32],
-    scores: &mut [f32],
-    trks: &mut [f32],
-    confs: &mut [f32],
-    work64: &mut [f64],
-    work32: &mut [f32],
-) -> AssignmentCounts
-    requires sizes { ⌜ TrackRoom held (boxesIn (now objects)) last (length (now floats)) (length (now counters)) (length (now work64)) (length (now work32)) ⌝ }
-    requires low { ⌜ SinceLow held (tracks (now floats) (now counters) held) ⌝ }
-    requires lent { ⌜ Lent held (boxesIn (now objects)) (length (now corners)) (length (now scores)) (length (now trks)) (length (now confs)) ⌝ }
-    ensures { λ r. ⌜ Tracked (settings .«iou_threshold») (steps settings frame last (now (objects .entry)) (tracks (now (floats .entry)) (now (counters .entry)) held)) (boxesIn (now (objects .entry))) last held
-        (now (floats .entry)) (now (counters .entry)) (now (work64 .entry)) (now (work32 .entry)) r (now (floats .exit)) (now (counters .exit)) (now (work64 .exit)) (now (work32 .exit)) ⌝ }
-{
-    gather(
-        floats,
-        counters,
-        held,
-        objects,
-        corners,
-        scores,
-        trks,
-        confs,
-    );
-    boost(
-        settings,
-        frame,
-        floats,
-        counters,
-        held,
-        corners,
-        trks,
-        confs,
-        work32,
-        scores,
-    );
-    let kept = retain(settings.det_thresh, objects, scores, corners);
-    let end = kept * 4;
-    settle(
-        settings,
-        last,
-        held,
-        floats,
-        counters,
-        &corners[..end],
-        trks,
-        confs,
-        &scores[..kept],
-        work64,
-        work32,
-    )
-}
-
-// Steps 1 to 7 of predicted tracks.
-fn track(
-    settings: Settings,
-    frame: u64,
-    last: u64,
-    held: usize,
-    floats: &mut [f32],
-    counters: &mut [u64],
-    objects: &[f32],
-    work64: &mut [f64],
-    work32: &mut [f32],
-) -> AssignmentCounts
-    requires sizes { ⌜ TrackRoom held (boxesIn (now objects)) last (length (now floats)) (length (now counters)) (length (now work64)) (length (now work32)) ⌝ }
-    requires low { ⌜ SinceLow held (tracks (now floats) (now counters) held) ⌝ }
-    ensures { λ r. ⌜ Tracked (settings .«iou_threshold») (steps settings frame last (now (objects .entry)) (tracks (now (floats .entry)) (now (counters .entry)) held)) (boxesIn (now (objects .entry))) last held
-        (now (floats .entry)) (now (counters .entry)) (now (work64 .entry)) (now (work32 .entry)) r (now (floats .exit)) (now (counters .exit)) (now (work64 .exit)) (now (work32 .exit)) ⌝ }
-{
-    let n = objects.len() / 5;
-    let mut corners = [0.0f32; 1020];
-    let mut scores = [0.0f32; 255];
-    let mut trks = [0.0f32; 1020];
-    let mut confs = [0.0f32; 255];
-    let of_boxes = n * 4;
-    let of_tracks = held * 4;
-    track_with(
-        settings,
-        frame,
-        last,
-        held,
-        floats,
-        counters,
-        objects,
-        &mut corners[..of_boxes],
-        &mut scores[..n],
-        &mut trks[..of_tracks],
-        &mut confs[..held],
-        work64,
-        work32,
-    )
-}
-
-fn work(
+// Step 8 of an accepted frame.
+fn finish(
     settings: Settings,
     state: State,
+    advanced: Advanced,
     floats: &mut [f32],
     counters: &mut [u64],
-    boxes: &[f32],
     out: &mut [u8],
-    work64: &mut [f64],
-    work32: &mut [f32],
 ) -> UpdateAnswer
-    requires { ⌜ Ready settings state (now floats) (now counters) (now boxes) (length (now out)) (length (now work64)) (length (now work32)) ⌝ }
-    ensures { λ r. ⌜ UpdateDone settings state (now (floats .entry)) (now (counters .entry)) (now (boxes .entry)) (now (out .entry)) (now (work64 .entry)) (now (work32 .entry)) r (now (floats .exit)) (now (counters .exit)) (now (out .exit)) (now (work64 .exit)) (now (work32 .exit)) ⌝ }
+    requires { ⌜ FinishRoom (state .count) (state .last) (state .frames) (advanced .started) ⌝ }
+    ensures { λ r. ⌜ Finished settings state advanced (now (floats .entry)) (now (counters .entry)) (now (out .entry)) r (now (floats .exit)) (now (counters .exit)) (now (out .exit)) ⌝ }
 {
-    let held = state.count;
-    let last = state.last;
     let frame = state.frames + 1;
-    table::predict_all(floats, counters, held);
-    let counts = track(
-        settings,
-        frame,
-        last,
-        held,
-        floats,
-        counters,
-        boxes,
-        work64,
-        work32,
-    );
-    let started = counts.detections;
-    let all = held + started;
+    let started = advanced.started;
+    let all = state.count + started;
     let emitted = table::emit(floats, counters, all, frame as u32, settings.min_hits, out);
     let count = table::retire(floats, counters, all, settings.max_age);
     table::clear_beyond(floats, counters, count);
-    let last_id = last + started as u64;
-    let state = State {
+    let last = state.last + started as u64;
+    let after = State {
         count,
-        last: last_id,
+        last,
         frames: frame,
     };
     UpdateAnswer {
         verdict: Verdict::Accepted,
-        state,
+        state: after,
         emitted,
-        turns: counts.turns,
-        scans: counts.scans,
+        turns: advanced.turns,
+        scans: advanced.scans,
     }
 }
 
@@ -201,27 +76,19 @@ pub fn update(
 ) -> UpdateAnswer
     ensures { λ r. ⌜ UpdateEnds settings state (now (floats .entry)) (now (counters .entry)) (now (boxes .entry)) (now (out .entry)) (now (work64 .entry)) (now (work32 .entry)) r (now (floats .exit)) (now (counters .exit)) (now (out .exit)) (now (work64 .exit)) (now (work32 .exit)) ⌝ }
 {
-    let verdict = table::frame_verdict(
+    let advanced = advance(
         settings,
         state,
         floats,
         counters,
         boxes,
         out.len(),
-        work64.len(),
-        work32.len(),
+        work64,
+        work32,
     );
+    let verdict = advanced.verdict;
     let Verdict::Accepted = verdict else {
         return refused(verdict, state);
     };
-    work(
-        settings,
-        state,
-        floats,
-        counters,
-        boxes,
-        out,
-        work64,
-        work32,
-    )
+    finish(settings, state, advanced, floats, counters, out)
 }

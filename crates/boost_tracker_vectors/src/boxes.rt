@@ -1,16 +1,11 @@
 // The boxes of a scene's frames (docs/ORACLE.md, "Boxes").
 ghost use Prim.Native.Nat.{_+_, _<_, _≤_};
-use crate::digest::bits;
 use crate::kind::Kind;
 use crate::kind::cast_of;
 use crate::kind::kind_of;
 use crate::numbers::MIDDLE;
 use crate::numbers::coordinate;
-use crate::numbers::float_of;
-use crate::numbers::next;
 use crate::numbers::not_a_number;
-use crate::numbers::part;
-use crate::numbers::real;
 use crate::numbers::up_to;
 use crate::numbers::way;
 use crate::numbers::wide;
@@ -18,6 +13,11 @@ use crate::numbers::within;
 use crate::scene::damage_of;
 use crate::scene::looked_at;
 use crate::scene::settings_of;
+use vectors::floats::bits;
+use vectors::floats::float_of;
+use vectors::floats::real;
+use vectors::random::next;
+use vectors::random::part;
 
 // An actor in a frame: their indices; its own number and the next; the frame's number for it and the next.
 pub(crate) struct Moment {

@@ -1,12 +1,13 @@
 // A call of update, over memory of the lengths asked for, and its line.
 ghost use Prim.Native.Nat.{_+_, _≤_};
-use crate::digest;
 use crate::numbers::at_most;
 use crate::numbers::larger;
+use crate::output;
 use crate::text;
 use boost_tracker::Settings;
 use boost_tracker::State;
 use boost_tracker::UpdateAnswer;
+use vectors::digest;
 
 // How many a slice has more than are needed, or that it has one too few.
 pub(crate) struct Spare {
@@ -63,11 +64,12 @@ pub(crate) fn table_digest(floats: &[f32], counters: &[u64]) -> u64 {
     digest::words(digest::floats(digest::START, floats), counters)
 }
 
-// The records, the bytes behind them, and both work slices.
+// The output and both work slices.
 fn lent_digest(out: &[u8], emitted: usize, work64: &[f64], work32: &[f32]) -> u64 {
-    let written = digest::track_records(digest::START, out, emitted);
-    let whole = digest::bytes(written, out, at_most(512, emitted) * 32);
-    digest::floats(digest::doubles(whole, work64), work32)
+    digest::floats(
+        digest::doubles(output::digest_of(out, emitted), work64),
+        work32,
+    )
 }
 
 // Prints what a call answered and left.

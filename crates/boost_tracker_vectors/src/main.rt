@@ -2,10 +2,10 @@
 // each: what a call answers, and digests of what it is given and of all that it leaves. The file stdout has
 // the lines that the published tracker gives on the same inputs (oracle/boost_tracker/run).
 mod boxes;
-mod digest;
 mod frame;
 mod kind;
 mod numbers;
+mod output;
 mod refusals;
 mod scene;
 mod scenes;

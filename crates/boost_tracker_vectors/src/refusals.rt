@@ -6,10 +6,8 @@ use crate::frame;
 use crate::frame::Spare;
 use crate::frame::Spares;
 use crate::numbers::at_most;
-use crate::numbers::float_of;
 use crate::numbers::infinity;
 use crate::numbers::not_a_number;
-use crate::numbers::real;
 use crate::scene;
 use crate::text;
 use boost_tracker::Settings;
@@ -17,6 +15,8 @@ use boost_tracker::State;
 use strack::kalman_filter::KalmanFilter;
 use strack::kalman_filter::Pair;
 use strack::strack::KalmanBoxTracker;
+use vectors::floats::float_of;
+use vectors::floats::real;
 
 const EDITS: usize = 51;
 

@@ -1,7 +1,6 @@
 // Plays the scenes: a line for each, and one for each of its frames.
 ghost use Prim.Native.Nat.{_+_, _*_, _<_, _≤_};
 use crate::boxes;
-use crate::digest;
 use crate::frame;
 use crate::frame::Spare;
 use crate::frame::Spares;

@@ -6,15 +6,15 @@ use crate::boxes::length;
 use crate::kind::Kind;
 use crate::kind::actors_of;
 use crate::kind::kind_of;
-use crate::numbers::next;
-use crate::numbers::part;
-use crate::numbers::real;
 use crate::scene::state_of;
 use crate::scene::turn;
 use strack::kalman_filter::DetectBox;
 use strack::kalman_filter::KalmanFilter;
 use strack::kalman_filter::Pair;
 use strack::strack::KalmanBoxTracker;
+use vectors::floats::real;
+use vectors::random::next;
+use vectors::random::part;
 
 // Where the random numbers of a scene start.
 fn seed(s: usize) -> u64 {

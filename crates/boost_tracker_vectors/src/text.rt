@@ -1,5 +1,4 @@
 // What is printed: a line for each scene and each call, words and numbers with a space between them.
-use crate::digest::bits;
 use crate::kind::Kind;
 use boost_tracker::Refusal;
 use boost_tracker::Settings;
@@ -7,6 +6,7 @@ use boost_tracker::State;
 use boost_tracker::UpdateAnswer;
 use boost_tracker::Verdict;
 use records::TrackAnswer;
+use vectors::floats;
 
 // ---- parts of a line
 
@@ -47,7 +47,7 @@ pub(crate) fn digests(first: u64, second: u64, third: u64) {
 
 fn float(x: f32) {
     io::write_all(1, b" ");
-    io::print_hex(1, bits(x) as u64, 8);
+    io::print_hex(1, floats::word(x), 8);
 }
 
 pub(crate) fn state(state: State) {

@@ -26,7 +26,8 @@ use Rattle.similarity.specs.Sizes.{after}
 use Rattle.boosts.specs.declared.dlo.DloSettings.{DloSettings}
 use Rattle.boosts.specs.Dlo.{similarity, threshold, maxS, coefficient, soft, shouldBoost, varying, boosted, dloConfidenceBoost}
 use Rattle.boosts.specs.Steps.{shapeRow, third, rowSimilarity, mostOf, softened, varied, rowScore, boostedScore, mhdLeft}
-use Rattle.boosts.proofs.RowLaws.{one-iou, one-soft, one-v1, one-v2}
+use Rattle.duo.specs.Rows.{one-iou}
+use Rattle.boosts.proofs.RowLaws.{one-soft, one-v1, one-v2}
 
 -- ---- a row of similarities
 

@@ -3,4 +3,3 @@ pub mod Verdicts
 pub mod RowLaws
 pub mod MhLaws
 pub mod DloLaws
-pub mod DuoLaws

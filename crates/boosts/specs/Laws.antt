@@ -1,4 +1,4 @@
--- What the layer above wants of the definitions: states that were gathered from the trackers give the Rust's matrix, and over a matrix that a stage stored a boost is that of the stage's cells. Assumes nothing.
+-- What the layer above wants of the definitions: states that were gathered from the trackers give the Rust's matrix, and over a matrix that a stage stored the boost is that of the stage's cells. Assumes nothing.
 use mathlib.Core.Path.{_≡_, refl, sym, ap, _∙_}
 use mathlib.Core.Bool.{cond, _||_}
 use mathlib.Core.List.{List}
@@ -13,9 +13,8 @@ use Rattle.laws.specs.Fold.{fold-ext}
 use Rattle.laws.specs.Scan.{scan-ext, lowest}
 use Rattle.laws.specs.Packed.{packed, packed-at}
 use Rattle.laws.specs.Grid.{grid, cellAt, grid-at, grid-ext}
-use Rattle.laws.specs.Picked.{picked-ext}
 use Rattle.floats.specs.Single.{_⊕_, zero as 0·0, one}
-use Rattle.floats.specs.Pick.{larger, smaller}
+use Rattle.floats.specs.Pick.{larger}
 use Rattle.strack.specs.declared.kalman_filter.DetectBox.{DetectBox}
 use Rattle.strack.specs.declared.strack.KalmanBoxTracker.{KalmanBoxTracker}
 use Rattle.strack.specs.Strack.{getKfState, getKfCovarianceDiag}
@@ -23,7 +22,6 @@ use Rattle.similarity.specs.Mahalanobis.{normalized, exponential, similarity as
 use Rattle.boosts.specs.declared.dlo.DloSettings.{DloSettings}
 use Rattle.boosts.specs.MhDist.{row, z, reciprocals, mhDist, getMhDistMatrix}
 use Rattle.boosts.specs.Dlo.{similarity, threshold, maxS, coefficient, soft, shouldBoost, varying, boosted, dloConfidenceBoost}
-use Rattle.boosts.specs.Duo.{maxF32, minMhDist, isCandidate, boostCandidates, duoConfidenceBoost}
 
 -- ---- get_mh_dist_matrix
 
@@ -85,18 +83,3 @@ dlo-over q detBboxes trks confs cell l since boxes tracks scores =
     ap (λ (s : List Float). cond (eqb tracks 0 || eqb boxes 0) scores s)
     (boosted-ext q (similarity q detBboxes trks confs stored boxes) (similarity q detBboxes trks confs cell boxes) since boxes tracks
     (λ i j hi hj. similarity-ext q detBboxes trks confs stored cell boxes tracks i j (λ m k hm hk. grid-at cell boxes tracks l nan m k hm hk) hi hj) scores)
-
--- ---- duo_confidence_boost
-
-candidates-ext : (f g : ℕ → ℕ → Float) (thresh : Float) (boxes tracks : ℕ) (scores : List Float) → ((i j : ℕ) → i < boxes → j < tracks → f i j ≡ g i j)
-    → boostCandidates f thresh boxes tracks scores ≡ boostCandidates g thresh boxes tracks scores
-unfolding boostCandidates isCandidate minMhDist
-candidates-ext f g thresh boxes tracks scores e =
-    picked-ext _ _ boxes
-    (λ i h. let least : minMhDist f tracks i ≡ minMhDist g tracks i = fold-ext (λ m j. smaller m (f i j)) (λ m j. smaller m (g i j)) maxF32 tracks (λ m j k. ap (smaller m) (e i j h k)) in rw least)
-
-pub duo-over : (frameCount : ℕ) (thresh : Float) (detBboxes : List Float) (cell : ℕ → ℕ → Float) (l : List Float) (boxes tracks : ℕ) (scores : List Float)
-    → duoConfidenceBoost frameCount thresh detBboxes (cellAt nan tracks (grid cell boxes tracks l)) boxes tracks scores ≡ duoConfidenceBoost frameCount thresh detBboxes cell boxes tracks scores
-unfolding duoConfidenceBoost
-duo-over frameCount thresh detBboxes cell l boxes tracks scores =
-    rw (candidates-ext (cellAt nan tracks (grid cell boxes tracks l)) cell thresh boxes tracks scores (λ i j hi hj. grid-at cell boxes tracks l nan i j hi hj))

@@ -40,12 +40,6 @@ pub record Stated (boxes tracks detections x sigma out : ℕ) : Type 0 where
 
 -- ---- dlo_confidence_boost
 
--- lengths of one box, of the corners of the tracks and of a row of cells
-pub record OneBox (det trks row : ℕ) : Type 0 where
-  pub four : det ≡ 4
-  pub trks-fit : trks ≡ row * 4
-  pub few : row ≤ 255
-
 abbrev pub shapeRow : Bool → List Float → List Float → ℕ → Float
 shapeRow corrected det trks j = cond corrected (shapeSimilarityV2 det trks 0 j) (shapeSimilarityV1 det trks 0 j)
 

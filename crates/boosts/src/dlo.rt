@@ -1,6 +1,6 @@
 // The boost of boxes that are like a track: dlo_confidence_boost of boost_tracker.rs, a row of similarities at a time.
-use super::rows::largest;
 use super::sizes::of_dlo;
+use duo::largest;
 use similarity::Verdict;
 ghost use mathlib.Core.Path.{_≡_};
 ghost use mathlib.Core.Bool.{cond};
@@ -13,9 +13,11 @@ ghost use Rattle.laws.specs.Scan.{lowest};
 ghost use Rattle.floats.specs.Single.{one};
 ghost use Rattle.similarity.specs.Sizes.{after};
 ghost use Rattle.similarity.specs.Mahalanobis.{mhDistSimilarity};
-ghost use Rattle.boosts.specs.Sizes.{ofDlo, boostedBy};
+ghost use Rattle.duo.specs.Sizes.{boostedBy};
+ghost use Rattle.duo.specs.Rows.{OneBox};
+ghost use Rattle.boosts.specs.Sizes.{ofDlo};
 ghost use Rattle.boosts.specs.Dlo as Dlo;
-ghost use Rattle.boosts.specs.Steps.{softened, varied, rowScore, rowSimilarity, OneBox, Framed};
+ghost use Rattle.boosts.specs.Steps.{softened, varied, rowScore, rowSimilarity, Framed};
 ghost use Rattle.boosts.specs.Steps as Steps;
 
 // What the boost reads of the tracker's settings.

@@ -1,17 +1,11 @@
 // The verdict on a call, from its sides and the lengths of its slices.
+use duo::of_duo;
+use duo::too_many;
 use similarity::Refusal;
 use similarity::Verdict;
 ghost use mathlib.Core.Path.{_≡_};
 ghost use Prim.Native.Nat.{_≤_};
-ghost use Rattle.similarity.specs.Refusal.{tooMany};
 ghost use Rattle.boosts.specs.Sizes as Sizes;
-
-// 31 before 32 and 33, so that no product is taken of sides above 255.
-fn too_many(boxes: usize, tracks: usize) -> bool
-    ensures { λ r. ⌜ r ≡ tooMany boxes tracks ⌝ }
-{
-    (boxes > 255) | (tracks > 255)
-}
 
 // The verdict on a matrix of distances.
 pub(crate) fn of_states(
@@ -36,40 +30,11 @@ pub(crate) fn of_states(
     Verdict::Accepted
 }
 
-fn other_boxes(boxes: usize, detections: usize, scores: usize) -> bool
-    requires { ⌜ boxes ≤ 255 ⌝ }
-    ensures { λ r. ⌜ r ≡ Sizes.otherBoxes boxes detections scores ⌝ }
-{
-    (detections != boxes * 4) | (scores != boxes)
-}
-
 fn other_tracks(tracks: usize, corners: usize, confidences: usize, since: usize) -> bool
     requires { ⌜ tracks ≤ 255 ⌝ }
     ensures { λ r. ⌜ r ≡ Sizes.otherTracks tracks corners confidences since ⌝ }
 {
     (corners != tracks * 4) | (confidences != tracks) | (since != tracks)
-}
-
-// The verdict on a DUO boost.
-pub(crate) fn of_duo(
-    boxes: usize,
-    tracks: usize,
-    detections: usize,
-    distance: usize,
-    scores: usize,
-) -> Verdict
-    ensures { λ r. ⌜ r ≡ Sizes.ofDuo boxes tracks detections distance scores ⌝ }
-{
-    if too_many(boxes, tracks) {
-        return Verdict::Refused(Refusal::TooMany);
-    }
-    if other_boxes(boxes, detections, scores) {
-        return Verdict::Refused(Refusal::OtherSize);
-    }
-    if distance < boxes * tracks {
-        return Verdict::Refused(Refusal::TooShort);
-    }
-    Verdict::Accepted
 }
 
 // The verdict on a DLO boost.

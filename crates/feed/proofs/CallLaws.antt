@@ -1,98 +1,116 @@
--- Each return of a call is the definition's case where the tests are as that return found them. Assumes nothing.
-use mathlib.Core.Path.{_≡_, refl, sym, ap, subst, _∙_}
-use mathlib.Core.Bool.{true, false}
+-- What a call works, answers and leaves is the definition's case of what it was handed. Assumes nothing.
+use mathlib.Core.Path.{_≡_, refl, ap, subst, _∙_}
+use mathlib.Core.Bool.{Bool, true, false, cond}
 use mathlib.Core.List.{List}
-use Prim.Native.Nat.{ℕ, _+_, _*_, _/_, _≤_, _<_, min}
+use Prim.Native.Nat.{ℕ, _*_, _/_, _≤_, _<_, min}
 use native.Mathlib.Nat.{zero-add}
-use lib.Dec.{eqb}
+use lib.Dec.{eqb, ltb}
 use lib.ListN.{length, take}
 use lib.Ieee.{Float}
-use borrow.Author.Tests.{lt-ltb, le-ltb, eq-eqb, ne-eqb}
+use borrow.Author.Tests.{lt-ltb, le-ltb}
 use Rattle.records.specs.declared.box_record.BoxRecord.{BoxRecord}
 use Rattle.records.specs.Line.{refusedLine}
-use Rattle.stream.specs.declared.rules.OpenFrame.{OpenFrame}
+use Rattle.table.specs.declared.sound.State.{State}
 use Rattle.stream.specs.declared.rules.Refusal.{Refusal}
 use Rattle.stream.specs.declared.rules.Next.{Next}
 use Rattle.stream.specs.declared.rules.Next.the-variants as next
 use Rattle.stream.specs.declared.rules.Ending.{Ending}
 use Rattle.stream.specs.declared.rules.Ending.the-variants as ending
-use Rattle.stream.specs.Rules.{nthAfter, judged, closed}
-use Rattle.stream.specs.Rules as rules
-use Rattle.stream.specs.Boxes.{heldThen}
+use Rattle.stream.specs.Rules.{number, nthAfter, judged, closed}
+use Rattle.feed.specs.declared.frame.Task.{Task}
+use Rattle.feed.specs.declared.frame.Task.the-variants as task
 use Rattle.feed.specs.declared.frame.Worked.{Worked}
-use Rattle.feed.specs.declared.frame.Worked.the-variants.{Done}
+use Rattle.feed.specs.declared.frame.Worked.the-variants.{Done, Stopped}
 use Rattle.feed.specs.declared.feed.Feed.{Feed}
 use Rattle.feed.specs.declared.feed.Fed.{Fed}
-use Rattle.feed.specs.declared.feed.Fed.the-variants.{Taken, Ended, Short}
-use Rattle.feed.specs.Feed.{Lent, lentWith, Work, workWith, hasRoom, work, feedWith, Call, callWith, workFront, workOpen, againThen, laterThen, boxesThen, lastThen, refuses, laterCall, nextThen, endThen, callThen, taken, finished}
-use Rattle.feed.specs.Steps.{Put}
+use Rattle.feed.specs.declared.feed.Fed.the-variants.{Short}
+use Rattle.feed.specs.declared.feed.Item.{Item}
+use Rattle.feed.specs.declared.feed.Item.the-variants as item
+use Rattle.feed.specs.declared.feed.Turn.{Turn}
+use Rattle.feed.specs.declared.feed.Turn.the-variants as turn
+use Rattle.feed.specs.Feed.{Lent, lentWith, Work, workWith, work, Call, callWith, workFront, workOpen, againThen, laterThen, boxesThen, lastThen, nextThen, endThen, callThen, taken, finished, fed}
+use Rattle.feed.specs.Steps.{Put, ofNext, ofEnding, itemTurn, turnOf, openTask, taskOf, taskWork, boxesTurn, answerTurn, turnCall}
 
--- ---- frames
+-- ---- what is worked
+
+module _ (state : State) (nth : ℕ) (boxes : List Float) {t : Task} where
+  pub frame-worked : (l : Lent) {k m : ℕ} {w : Work} → t ≡ task.Frame k → m ≡ min k (length boxes / 5) → w ≡ work state nth (take (m * 5) boxes) l → w ≡ taskWork state nth t boxes l
+  frame-worked l e count q = rw e (q ∙ ap (λ (m : ℕ). work state nth (take (m * 5) boxes) l) count)
+
+  pub refused-worked : (f : List Float) (c out : List ℕ) (w64 w32 : List Float) (text : List ℕ) {why : Refusal} {k last n : ℕ} {text′ : List ℕ} → t ≡ task.Refused why last → k ≡ number why
+      → Put 0 (refusedLine k last) text n text′ → workWith (Stopped n) (lentWith f c out w64 w32 text′) ≡ taskWork state nth t boxes (lentWith f c out w64 w32 text)
+  refused-worked f c out w64 w32 text {k = k} {last = last} e q p = rw (e, p .cells, p .ends ∙ zero-add (length (refusedLine k last)), q)
+
+-- ---- what a call does where no empty frame comes before
+
+module _ (feed : Feed) {i : Item} {t : Turn} (none : feed .empty ≤ 0) where
+  pub next-turn : {r : BoxRecord} {n : Next} → i ≡ item.Record r → n ≡ judged (feed .opened) (nthAfter (feed .opened .records)) (r .frame) → t ≡ ofNext r n → t ≡ turnOf feed i
+  next-turn {r} e j q = rw (le-ltb 0 (feed .empty) none, e) (q ∙ ap (ofNext r) j)
+
+  pub end-turn : {rest : ℕ} {n : Ending} → i ≡ item.End rest → n ≡ closed (nthAfter (feed .opened .records)) rest → t ≡ ofEnding n → t ≡ turnOf feed i
+  end-turn e j q = rw (le-ltb 0 (feed .empty) none, e) (q ∙ ap ofEnding j)
+
+-- ---- what a call is
 
 module _ (feed : Feed) (boxes : List Float) (l : Lent) where
-  pub front-worked : (k : ℕ) {m : ℕ} {w : Work} → m ≡ min k (length boxes / 5) → w ≡ work (feed .table) (feed .opened .first) (take (m * 5) boxes) l → w ≡ workFront feed k boxes l
+  open-worked : (b : Bool) → taskWork (feed .table) (feed .opened .first) (cond b task.Nothing (task.Frame (feed .opened .boxes))) boxes l
+      ≡ cond b (workWith (Done (feed .table) 0) l) (workFront feed (feed .opened .boxes) boxes l)
   unfolding workFront
-  front-worked k e q = q ∙ ap (λ (m : ℕ). work (feed .table) (feed .opened .first) (take (m * 5) boxes) l) e
+  open-worked true = refl
+  open-worked false = refl
 
-  pub none-open : feed .opened .frame ≡ 0 → workWith (Done (feed .table) 0) l ≡ workOpen feed boxes l
+  -- the open frame, if there is one
+  open-is : taskWork (feed .table) (feed .opened .first) (openTask (feed .opened)) boxes l ≡ workOpen feed boxes l
   unfolding workOpen
-  none-open e = rw (eq-eqb (feed .opened .frame) 0 e)
+  open-is = open-worked (eqb (feed .opened .frame) 0)
 
-  pub some-open : {w : Work} → (feed .opened .frame ≡ 0 → ⊥) → w ≡ workFront feed (feed .opened .boxes) boxes l → w ≡ workOpen feed boxes l
-  unfolding workOpen
-  some-open n q = rw (ne-eqb (feed .opened .frame) 0 n) q
+  next-is : (r : BoxRecord) (n : Next) → turnCall feed (ofNext r n) l boxes ≡ nextThen feed r n l boxes
+  next-is r (next.Same opened) = refl
+  next-is r (next.Later empty opened) = ap (λ (w : Work). callWith (laterThen empty opened (w .answer)) (w .lent) (boxesThen r (w .answer) boxes)) open-is
+  next-is r (next.Refused why nth) = refl
 
-  -- ---- what follows of them
+  ending-is : (e : Ending) → turnCall feed (ofEnding e) l boxes ≡ endThen feed e l boxes
+  ending-is ending.Clean = ap (λ (w : Work). callWith (lastThen (w .answer)) (w .lent) boxes) open-is
+  ending-is (ending.Refused why nth) = refl
 
-  pub later-call : (r : BoxRecord) (empty : ℕ) (opened : OpenFrame) {w : Worked} {l′ : Lent} {a : Fed} {b : List Float} → workWith w l′ ≡ workOpen feed boxes l → a ≡ laterThen empty opened w
-      → b ≡ boxesThen r w boxes → callWith a l′ b ≡ laterCall feed r empty opened l boxes
-  later-call r empty opened {w} {l′} {a} {b} e p q =
-      subst (λ (x : Work). callWith a l′ b ≡ callWith (laterThen empty opened (x .answer)) (x .lent) (boxesThen r (x .answer) boxes)) e (rw (p, q))
+  -- where no empty frame comes before
+  abbrev itemCall : Item → Call
+  itemCall (item.Record r) = nextThen feed r (judged (feed .opened) (nthAfter (feed .opened .records)) (r .frame)) l boxes
+  itemCall (item.End rest) = endThen feed (closed (nthAfter (feed .opened .records)) rest) l boxes
 
-  pub clean-call : {end : Ending} {w : Worked} {l′ : Lent} {a : Fed} → end ≡ ending.Clean → workWith w l′ ≡ workOpen feed boxes l → a ≡ lastThen w → callWith a l′ boxes ≡ endThen feed end l boxes
-  clean-call {end} {w} {l′} {a} t e p = rw t (subst (λ (x : Work). callWith a l′ boxes ≡ callWith (lastThen (x .answer)) (x .lent) boxes) e (rw p))
+  item-is : (i : Item) → turnCall feed (itemTurn (feed .opened) i) l boxes ≡ itemCall i
+  item-is (item.Record r) = next-is r (judged (feed .opened) (nthAfter (feed .opened .records)) (r .frame))
+  item-is (item.End rest) = ending-is (closed (nthAfter (feed .opened .records)) rest)
 
-  pub same-call : (r : BoxRecord) {n : Next} {opened : OpenFrame} {a : Fed} {b : List Float} → n ≡ next.Same opened → a ≡ Taken (feedWith opened 0 (feed .table)) 0 → b ≡ heldThen r (feed .opened .boxes) boxes
-      → callWith a l b ≡ nextThen feed r n l boxes
-  same-call r t p q = rw (t, p, q)
+  abbrev emptyCall : Call
+  emptyCall = callWith (againThen feed (workFront feed 0 boxes l .answer)) (workFront feed 0 boxes l .lent) boxes
 
-  pub later-next : (r : BoxRecord) {n : Next} {empty : ℕ} {opened : OpenFrame} {x : Call} → n ≡ next.Later empty opened → x ≡ laterCall feed r empty opened l boxes → x ≡ nextThen feed r n l boxes
-  later-next r t q = rw t q
+  empty-first : (b : Bool) (t : Turn) → turnCall feed (cond b turn.Empty t) l boxes ≡ cond b emptyCall (turnCall feed t l boxes)
+  unfolding workFront
+  empty-first true t = refl
+  empty-first false t = refl
 
-  -- ---- a call
+  fed-is : (i : Item) → callThen feed l boxes (itemCall i) ≡ fed feed i l boxes
+  unfolding taken finished
+  fed-is (item.Record r) = refl
+  fed-is (item.End rest) = refl
 
-  module _ (call : Call) where
-    pub short-call : length (l .text) / 87 ≤ length (l .output) / 32 → callWith Short l boxes ≡ callThen feed l boxes call
-    short-call h = rw (le-ltb (length (l .output) / 32) (length (l .text) / 87) h)
+  pub short-call : (i : Item) → length (l .text) / 87 ≤ length (l .output) / 32 → callWith Short l boxes ≡ fed feed i l boxes
+  short-call i h =
+      let short : callWith Short l boxes ≡ callThen feed l boxes (itemCall i) = rw (le-ltb (length (l .output) / 32) (length (l .text) / 87) h) in
+      short ∙ fed-is i
 
-    module _ (room : length (l .output) / 32 < length (l .text) / 87) where
-      pub again-call : {w : Worked} {l′ : Lent} {a : Fed} → 0 < feed .empty → workWith w l′ ≡ workFront feed 0 boxes l → a ≡ againThen feed w → callWith a l′ boxes ≡ callThen feed l boxes call
-      again-call {w} {l′} {a} h e p =
-          rw (lt-ltb (length (l .output) / 32) (length (l .text) / 87) room, lt-ltb 0 (feed .empty) h)
-          (subst (λ (x : Work). callWith a l′ boxes ≡ callWith (againThen feed (x .answer)) (x .lent) boxes) e (rw p))
-
-      pub next-call : {x : Call} → feed .empty ≤ 0 → x ≡ call → x ≡ callThen feed l boxes call
-      next-call h q = rw (lt-ltb (length (l .output) / 32) (length (l .text) / 87) room, le-ltb 0 (feed .empty) h) q
-
-  pub is-taken : (r : BoxRecord) {x : Call} {n : Next} → n ≡ judged (feed .opened) (nthAfter (feed .opened .records)) (r .frame) → x ≡ callThen feed l boxes (nextThen feed r n l boxes) → x ≡ taken feed r l boxes
-  unfolding taken
-  is-taken r {x} e q = subst (λ (n : Next). x ≡ callThen feed l boxes (nextThen feed r n l boxes)) e q
-
-  pub is-finished : (rest : ℕ) {x : Call} {n : Ending} → n ≡ closed (nthAfter (feed .opened .records)) rest → x ≡ callThen feed l boxes (endThen feed n l boxes) → x ≡ finished feed rest l boxes
-  unfolding finished
-  is-finished rest {x} e q = subst (λ (n : Ending). x ≡ callThen feed l boxes (endThen feed n l boxes)) e q
-
--- ---- a refusal of the stream
-
-module _ (f : List Float) (c out : List ℕ) (w64 w32 : List Float) (text : List ℕ) (boxes : List Float) where
-  refused-call : {k n : ℕ} {text′ : List ℕ} (why : Refusal) (nth : ℕ) → k ≡ rules.number why → Put 0 (refusedLine k nth) text n text′
-      → callWith (Ended n) (lentWith f c out w64 w32 text′) boxes ≡ refuses (rules.number why) nth (lentWith f c out w64 w32 text) boxes
-  refused-call {k} why nth e p = rw (p .cells, p .ends ∙ zero-add (length (refusedLine k nth)), e)
-
-  pub refused-next : (feed : Feed) (r : BoxRecord) {x : Next} {why : Refusal} {k n nth : ℕ} {text′ : List ℕ} → x ≡ next.Refused why nth → k ≡ rules.number why → Put 0 (refusedLine k nth) text n text′
-      → callWith (Ended n) (lentWith f c out w64 w32 text′) boxes ≡ nextThen feed r x (lentWith f c out w64 w32 text) boxes
-  refused-next feed r {why = why} {nth = nth} t e p = rw t (refused-call why nth e p)
-
-  pub refused-end : (feed : Feed) {x : Ending} {why : Refusal} {k n nth : ℕ} {text′ : List ℕ} → x ≡ ending.Refused why nth → k ≡ rules.number why → Put 0 (refusedLine k nth) text n text′
-      → callWith (Ended n) (lentWith f c out w64 w32 text′) boxes ≡ endThen feed x (lentWith f c out w64 w32 text) boxes
-  refused-end feed {why = why} {nth = nth} t e p = rw t (refused-call why nth e p)
+  pub turn-call : (i : Item) {t : Turn} {k : Task} {w : Worked} {l′ : Lent} {a : Fed} {b : List Float} → length (l .output) / 32 < length (l .text) / 87 → t ≡ turnOf feed i → k ≡ taskOf (feed .opened) t
+      → workWith w l′ ≡ taskWork (feed .table) (feed .opened .first) k boxes l → b ≡ boxesTurn (feed .opened .boxes) t w boxes → a ≡ answerTurn feed t w → callWith a l′ b ≡ fed feed i l boxes
+  turn-call i {t} {k} {w} {l′} {a} {b} room told tasked worked held answered =
+      let left : callWith a l′ b ≡ callWith (answerTurn feed t w) l′ (boxesTurn (feed .opened .boxes) t w boxes) = rw (answered, held) in
+      let is : callWith a l′ b ≡ turnCall feed t l boxes =
+      subst (λ (x : Work). callWith a l′ b ≡ callWith (answerTurn feed t (x .answer)) (x .lent) (boxesTurn (feed .opened .boxes) t (x .answer) boxes))
+      (worked ∙ ap (λ (k : Task). taskWork (feed .table) (feed .opened .first) k boxes l) tasked)
+      left in
+      let call : cond (ltb 0 (feed .empty)) emptyCall (itemCall i) ≡ callThen feed l boxes (itemCall i) = rw (lt-ltb (length (l .output) / 32) (length (l .text) / 87) room) in
+      is ∙ ap (λ (t : Turn). turnCall feed t l boxes) told
+      ∙ empty-first (ltb 0 (feed .empty)) (itemTurn (feed .opened) i)
+      ∙ ap (cond (ltb 0 (feed .empty)) emptyCall) (item-is i)
+      ∙ call
+      ∙ fed-is i

@@ -1,8 +1,8 @@
--- Each return of `work_frame` is the definition's case of its verdict. Assumes nothing.
+-- Each return of `work_task` for a frame is the definition's case of its verdict. Assumes nothing.
 use mathlib.Core.Path.{_≡_, refl, sym, ap, subst, _∙_}
 use mathlib.Core.Bool.{true}
 use mathlib.Core.List.{List}
-use Prim.Native.Nat.{ℕ, _+_, _-_, _*_, _/_, _≤_, _<_}
+use Prim.Native.Nat.{ℕ, _-_, _*_, _/_, _≤_}
 use native.Mathlib.Nat.{zero-add}
 use native.Mathlib.Omega.{arith}
 use lib.ListN.{length, drop, length-append, length-drop}
@@ -16,16 +16,14 @@ use Rattle.table.specs.declared.sound.State.{State}
 use Rattle.table.specs.declared.refusal.Refusal.{Refusal}
 use Rattle.table.specs.declared.refusal.Verdict.{Verdict}
 use Rattle.table.specs.declared.refusal.Verdict.the-variants.{Accepted, Refused}
-use Rattle.table.specs.Table.{Track, tracks}
 use Rattle.table.specs.Record.{recordOf, recordBytes}
-use Rattle.table.specs.Frame.{number, verdict}
+use Rattle.table.specs.Frame.{number, answer, verdict}
 use Rattle.boost_tracker.specs.declared.frame.UpdateAnswer.{UpdateAnswer}
-use Rattle.boost_tracker.specs.Update.{Stages, update, stateAfter}
-use Rattle.boost_tracker.specs.Facts.{FrameFacts}
+use Rattle.boost_tracker_definition.specs.Update.{Stages, stateAfter}
 use Rattle.boost_tracker.specs.Answers.{answerThen, UpdateLeaves, UpdateEnds}
 use Rattle.feed.specs.declared.frame.Worked.the-variants.{Done, Stopped}
-use Rattle.feed.specs.Trackbox.{settings, trackerWith, stages, recordsOf, numberOf}
-use Rattle.feed.specs.Feed.{Lent, lentWith, Work, workWith, hasRoom, workThen, verdictOf, work}
+use Rattle.feed.specs.Trackbox.{settings, trackerWith, stages, recordsOf}
+use Rattle.feed.specs.Feed.{Lent, lentWith, workWith, hasRoom, workThen, verdictOf, work}
 use Rattle.feed.specs.Steps.{Put, linesIn}
 use Rattle.feed.proofs.OutputLaws.{lines-are}
 
@@ -34,11 +32,11 @@ accepts why q = let z : _≡_ {A = ℕ} 0 1 = cc in omega arith
 
 module _ {state : State} {g : Stages} {f : List Float} {c : List ℕ} {out : List ℕ} {w64 w32 : List Float} {r : UpdateAnswer} {f′ : List Float} {c′ : List ℕ} {out′ : List ℕ} {w64′ w32′ : List Float}
     (nth : ℕ) {text text′ : List ℕ} {n : ℕ} where
-  by-refusal : {k : ℕ} (v : Verdict) → UpdateLeaves v state g f c out w64 w32 r f′ c′ out′ w64′ w32′ → (why : Refusal) → r .verdict ≡ Refused why → k ≡ numberOf (r .verdict)
+  by-refusal : {k : ℕ} (v : Verdict) → UpdateLeaves v state g f c out w64 w32 r f′ c′ out′ w64′ w32′ → (why : Refusal) → r .verdict ≡ Refused why → k ≡ answer (r .verdict) .0
       → Put 0 (refusedLine k nth) text n text′ → workWith (Stopped n) (lentWith f′ c′ out′ w64′ w32′ text′) ≡ workThen v nth g (lentWith f c out w64 w32 text)
   by-refusal Accepted l why q e p = absurd (accepts why (sym (ap (λ (a : UpdateAnswer). a .verdict) (l .answer)) ∙ q))
   by-refusal {k} (Refused other) l why q e p =
-      let same : k ≡ number other = e ∙ ap (λ (a : UpdateAnswer). numberOf (a .verdict)) (l .answer) in
+      let same : k ≡ number other = e ∙ ap (λ (a : UpdateAnswer). answer (a .verdict) .0) (l .answer) in
       rw (l .floats, l .counters, l .output, l .doubles, l .singles, p .cells, p .ends ∙ zero-add (length (refusedLine k nth)), same)
 
   by-acceptance : {m : ℕ} {st : State} (v : Verdict) → UpdateLeaves v state g f c out w64 w32 r f′ c′ out′ w64′ w32′ → r .verdict ≡ Accepted → m ≡ r .emitted → st ≡ r .state
@@ -65,7 +63,7 @@ module _ (s : Settings) (is : s ≡ settings) (state : State) (nth : ℕ) (f : L
   abbrev lent : Lent
   lent = lentWith f c out w64 w32 text
 
-  pub work-refused : {k n : ℕ} {text′ : List ℕ} {why : Refusal} → r .verdict ≡ Refused why → k ≡ numberOf (r .verdict) → Put 0 (refusedLine k nth) text n text′
+  pub work-refused : {k n : ℕ} {text′ : List ℕ} {why : Refusal} → r .verdict ≡ Refused why → k ≡ answer (r .verdict) .0 → Put 0 (refusedLine k nth) text n text′
       → workWith (Stopped n) (lentWith f′ c′ out′ w64′ w32′ text′) ≡ work state nth b lent
   unfolding work
   work-refused {why = why} q e p = by-refusal nth (verdictOf state b lent) (ends .leaves) why q e p

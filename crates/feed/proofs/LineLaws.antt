@@ -16,7 +16,7 @@ use Rattle.records.specs.declared.track_record.TrackAnswer.{TrackAnswer}
 use Rattle.records.specs.declared.track_record.TrackAnswer.the-variants as track-answer
 use Rattle.records.specs.declared.Written.{Written}
 use Rattle.records.specs.declared.Written.the-variants as written
-use Rattle.records.specs.TrackRecord.{trackOf, trackAt}
+use Rattle.records.specs.TrackRecord.{trackAt}
 use Rattle.records.specs.Written.{WritesText}
 use Rattle.records.specs.Line.{line, refusedLine}
 use Rattle.records.specs.Laws.{refused-most, text-fitted}

@@ -1,12 +1,12 @@
 -- The records of an accepted frame are read back from the output as they were written: each number and each float of them fits its field. Assumes nothing.
-use mathlib.Core.Path.{_≡_, refl, sym, ap, subst, _∙_}
+use mathlib.Core.Path.{_≡_, refl, ap, _∙_}
 use mathlib.Core.Bool.{Bool, true, cond}
-use mathlib.Core.List.{List, map}
+use mathlib.Core.List.{List}
 use Prim.Native.Nat.{ℕ, zero, suc, _+_, _-_, _*_, _/_, _%_, _^_, _≤_, _<_}
-use native.Mathlib.Nat.{lt-of-not-le, lt-of-le-of-lt}
+use native.Mathlib.Nat.{lt-of-not-le}
 use native.Mathlib.Decide.{decLe}
 use native.Mathlib.Omega.{arith}
-use lib.Dec.{T, eqb, ltb, leb, lit<}
+use lib.Dec.{T, eqb, ltb, leb}
 use lib.IntN.{ℤ, pos, negsuc}
 use lib.ListN.{length, getD}
 use lib.Ieee.{Float, binary32, ofBits, fits, mul}
@@ -14,26 +14,26 @@ use lib.Ieee.Fits.{sub-fits, mul-fits, div-fits, cond-fits}
 use borrow.Author.Tests.{leb-true, ltb-true, lt-ltb}
 use Rattle.laws.specs.Tests.{and-left, and-right}
 use Rattle.laws.specs.Every.{every, every-at, every-of, every-sieve}
-use Rattle.laws.specs.Tab.{tab, tab-ext, tab-map}
+use Rattle.laws.specs.Tab.{tab-ext, tab-map}
 use Rattle.laws.specs.Sieve.{sieve}
 use Rattle.laws.specs.Laid.{rows, laid, laid-at}
 use Rattle.floats.specs.Power.{one, powers, powi}
-use Rattle.strack.specs.Strack.{getState, getConfidence, confidence}
-use Rattle.records.specs.TrackRecord.{trackOf, trackBytes}
+use Rattle.strack.specs.Strack.{getState, confidence}
+use Rattle.records.specs.TrackRecord.{trackOf}
 use Rattle.records.specs.Line.{line}
 use Rattle.records.specs.Laws.{TrackFits, track-decode}
 use Rattle.records.specs.Laws.Lengths.{length-track}
 use Rattle.table.specs.declared.settings.Settings.{Settings}
 use Rattle.table.specs.declared.sound.State.{State}
-use Rattle.table.specs.declared.refusal.Verdict.the-variants.{Accepted, Refused}
+use Rattle.table.specs.declared.refusal.Verdict.the-variants.{Accepted}
 use Rattle.table.specs.Table.{Track, blank, capacity, tracks}
 use Rattle.table.specs.Sound.{rising, sound}
-use Rattle.table.specs.Emission.{emits, emitted}
+use Rattle.table.specs.Emission.{emits}
 use Rattle.table.specs.Record.{nineTenths, recordOf, recordBytes}
 use Rattle.table.specs.Frame.{verdict}
 use Rattle.table.specs.Ready.{Ready, ready}
-use Rattle.boost_tracker.specs.Update.{Stages, trackerAt, steps, update, stateAfter}
-use Rattle.boost_tracker.specs.Facts.{FrameFacts}
+use Rattle.boost_tracker_definition.specs.Update.{Stages, trackerAt, steps, update, stateAfter}
+use Rattle.boost_tracker_definition.specs.Facts.{FrameFacts}
 use Rattle.feed.specs.Trackbox.{recordsOf}
 use Rattle.feed.specs.Steps.{readAt, linesIn}
 

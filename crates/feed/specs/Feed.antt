@@ -1,9 +1,9 @@
--- One call of `take` or `finish`: what it answers, and each cell of lent memory. A call works at most one frame, so that its text has an end that is known before.
+-- One call of `take`: what it answers, and each cell of lent memory. A call works at most one frame, so that its text has an end that is known before.
 -- A record of a later frame ends the open one. Empty frames between the two are worked by the calls that follow; they name the record that came after them, which is the open frame's first.
-use mathlib.Core.Bool.{Bool, true, false, cond}
+use mathlib.Core.Bool.{Bool, cond}
 use mathlib.Core.List.{List}
 use Prim.Native.Nat.{ℕ, _-_, _*_, _/_, min}
-use lib.Dec.{eqb, ltb, leb}
+use lib.Dec.{eqb, ltb}
 use lib.ListN.{length, take}
 use lib.Ieee.{Float}
 use Rattle.laws.specs.Splice.{splice}
@@ -14,7 +14,7 @@ use Rattle.table.specs.declared.refusal.Verdict.{Verdict}
 use Rattle.table.specs.declared.refusal.Verdict.the-variants.{Accepted, Refused}
 use Rattle.table.specs.declared.sound.State.{State}
 use Rattle.table.specs.Frame.{number, verdict}
-use Rattle.boost_tracker.specs.Update.{Stages, stateAfter}
+use Rattle.boost_tracker_definition.specs.Update.{Stages, stateAfter}
 use Rattle.boost_tracker.specs.Answers.{floatsThen, countersThen, outputThen, doublesThen, singlesThen}
 use Rattle.stream.specs.declared.rules.OpenFrame.{OpenFrame}
 use Rattle.stream.specs.declared.rules.Next.{Next}
@@ -27,6 +27,8 @@ use Rattle.stream.specs.Boxes.{heldThen}
 use Rattle.feed.specs.declared.frame.Worked.{Worked}
 use Rattle.feed.specs.declared.frame.Worked.the-variants.{Done, Stopped}
 use Rattle.feed.specs.declared.feed.Feed.{Feed}
+use Rattle.feed.specs.declared.feed.Item.{Item}
+use Rattle.feed.specs.declared.feed.Item.the-variants as item
 use Rattle.feed.specs.declared.feed.Fed.{Fed}
 use Rattle.feed.specs.declared.feed.Fed.the-variants.{Taken, Again, Ended, Short}
 use Rattle.feed.specs.Trackbox.{settings, trackerWith, stages, recordsOf, begin}
@@ -165,3 +167,8 @@ taken feed r l boxes = callThen feed l boxes (nextThen feed r (judged (feed .ope
 -- the input has ended, with so many bytes behind the whole records
 unfoldable pub finished : Feed → ℕ → Lent → List Float → Call
 finished feed rest l boxes = callThen feed l boxes (endThen feed (closed (nthAfter (feed .opened .records)) rest) l boxes)
+
+-- either of the two
+abbrev pub fed : Feed → Item → Lent → List Float → Call
+fed feed (item.Record r) l boxes = taken feed r l boxes
+fed feed (item.End rest) l boxes = finished feed rest l boxes

@@ -1,4 +1,4 @@
--- What is printed. Records are handed to `take` one after the other, each until it is taken, and then `finish` is called until it has ended; whatever scratch memory each call is lent,
+-- What is printed. Records are handed to `take` one after the other, each until it is taken, and then the end until it has ended; whatever scratch memory each call is lent,
 -- the texts of all calls together are what `trackbox` says of the whole input (`printed-is`). Texts and Ahead are steps of the proof.
 -- Assumes nothing.
 pub mod Texts
@@ -9,7 +9,7 @@ use mathlib.Core.List.{List, [], _∷_, _++_, append-assoc, append-nil}
 use Prim.Native.Nat.{ℕ, zero, suc, _+_, _-_, _*_, _/_, _%_, _≤_, _<_, min}
 use native.Mathlib.Omega.{arith}
 use lib.Dec.{eqb, ltb}
-use lib.ListN.{length, take, replicate, length-append, length-replicate}
+use lib.ListN.{length, take, length-append}
 use lib.Ieee.{Float}
 use borrow.Author.Tests.{lt-ltb}
 use Rattle.laws.specs.Splice.{splice}
@@ -22,27 +22,22 @@ use Rattle.records.specs.Laws.Bytes.{AreBytes}
 use Rattle.table.specs.declared.sound.State.{State}
 use Rattle.table.specs.declared.refusal.Verdict.{Verdict}
 use Rattle.table.specs.declared.refusal.Verdict.the-variants.{Accepted, Refused}
-use Rattle.table.specs.Frame.{number, verdict}
-use Rattle.boost_tracker.specs.Update.{Stages, stateAfter}
+use Rattle.table.specs.Frame.{number}
+use Rattle.boost_tracker_definition.specs.Update.{Stages, stateAfter}
 use Rattle.boost_tracker.specs.Answers.{floatsThen, countersThen, outputThen, doublesThen, singlesThen}
 use Rattle.stream.specs.declared.rules.OpenFrame.{OpenFrame}
-use Rattle.stream.specs.declared.rules.Refusal.{Refusal}
-use Rattle.stream.specs.declared.rules.Refusal.the-variants.{RecordIncomplete, FrameBack, FrameFar, TooManyBoxes}
+use Rattle.stream.specs.declared.rules.Refusal.the-variants.{RecordIncomplete}
 use Rattle.stream.specs.declared.rules.Next.{Next}
-use Rattle.stream.specs.declared.rules.Next.the-variants as next
-use Rattle.stream.specs.declared.rules.Ending.{Ending}
 use Rattle.stream.specs.declared.rules.Ending.the-variants as ending
 use Rattle.stream.specs.Rules.{nthAfter, judged, closed, opened, grown}
 use Rattle.stream.specs.Rules as rules
 use Rattle.stream.specs.Boxes.{boxFloats, frameFloats, heldThen}
-use Rattle.stream.specs.Stream.{Event, work, refuse, Frame, refused, accepted, boxRecords, printing}
-use Rattle.stream.specs.Stream as stream
-use Rattle.stream.specs.Feeding.{openWork, emptyWork, told, toldAtEnd, stateThen, goesOn, fed}
+use Rattle.stream.specs.Stream.{Event, work, refuse, refused, accepted, boxRecords, printing}
+use Rattle.stream.specs.Feeding.{openWork, emptyWork, told, toldAtEnd, stateThen, goesOn}
 use Rattle.stream.specs.Feeding as feeding
 use Rattle.stream.specs.Laws.{trackbox-fed}
 use Rattle.stream.specs.Laws.Cases.{Judges, back, far, later, full, same, judges}
 use Rattle.stream.specs.Laws.Held.{held-first, held-more, held-front}
-use Rattle.feed.specs.declared.frame.Worked.{Worked}
 use Rattle.feed.specs.declared.frame.Worked.the-variants.{Done, Stopped}
 use Rattle.feed.specs.declared.feed.Feed.{Feed}
 use Rattle.feed.specs.declared.feed.Fed.{Fed}

@@ -17,7 +17,7 @@ use Rattle.table.specs.Settings.{new}
 use Rattle.table.specs.Table.{tracks}
 use Rattle.table.specs.Record.{recordOf}
 use Rattle.table.specs.Frame.{number, verdict}
-use Rattle.boost_tracker.specs.Update.{Stages, update, stateAfter}
+use Rattle.boost_tracker_definition.specs.Update.{Stages, update, stateAfter}
 use Rattle.boost_tracker.specs.Answers.{floatsThen, countersThen}
 use Rattle.stream.specs.Boxes.{frameFloats}
 use Rattle.stream.specs.Stream.{Frame, refused, accepted}
@@ -55,10 +55,6 @@ stages t objects = update settings (t .state) objects (tracks (t .floats) (t .co
 -- the records that a frame puts out
 abbrev pub recordsOf : Stages → List TrackRecord
 recordsOf g = map (recordOf (g .frameCount)) (g .output)
-
-abbrev pub numberOf : Verdict → ℕ
-numberOf Accepted = 0
-numberOf (Refused why) = number why
 
 abbrev pub frameThen : Verdict → Tracker → Stages → Frame Tracker
 frameThen Accepted t g = accepted (trackerWith (stateAfter g) (floatsThen Accepted g (t .floats) (t .counters)) (countersThen Accepted g (t .floats) (t .counters))) (recordsOf g)

@@ -1,22 +1,21 @@
-// The state that takes one record after another. A call works at most one frame, and the front of `text` is what it prints.
+// The state that takes one record after another, and then the end. A call works at most one frame, and the front of `text` is what it prints.
+use crate::frame::Task;
 use crate::frame::Worked;
-use crate::frame::work_frame;
-use crate::lines::put_refused;
+use crate::frame::work_task;
 use boost_tracker::State;
 use records::BoxRecord;
 use stream::Ending;
 use stream::Next;
 use stream::OpenFrame;
+use stream::Refusal;
 use stream::close;
 use stream::hold;
 use stream::judge;
 ghost use mathlib.Core.Path.{_≡_};
-ghost use mathlib.Core.Bool.{true};
-ghost use Prim.Native.Nat.{_-_, min};
-ghost use lib.ListN.{length};
-ghost use Rattle.stream.specs.Rules.{nthAfter, judged, closed};
+ghost use Prim.Native.Nat.{_-_};
 ghost use Rattle.feed.specs.Feed as Spec;
-ghost use Rattle.feed.specs.Feed.{Lent, lentWith, workWith, callWith, hasRoom};
+ghost use Rattle.feed.specs.Feed.{lentWith, callWith};
+ghost use Rattle.feed.specs.Steps as Steps;
 
 // What is known between two calls.
 pub struct Feed {
@@ -25,6 +24,13 @@ pub struct Feed {
     pub empty: u32,
     // of the tracker
     pub table: State,
+}
+
+// What is handed on.
+pub enum Item {
+    Record(BoxRecord),
+    // The input has ended, with so many bytes behind the last whole record.
+    End(usize),
 }
 
 pub enum Fed {
@@ -36,6 +42,20 @@ pub enum Fed {
     Ended(usize),
     // The text is lent for no more lines than the output for records. Nothing is changed.
     Short,
+}
+
+// What a call does.
+pub enum Turn {
+    // An empty frame that comes before is worked.
+    Empty,
+    // The record is the open frame's, and this is known with it.
+    Same(BoxRecord, OpenFrame),
+    // The open frame is worked. The record is a later frame's, before which so many are empty, and this is known with it.
+    Later(BoxRecord, u32, OpenFrame),
+    // The open frame is worked, and nothing follows.
+    Last,
+    // The stream is turned down, with the record that is named.
+    Refused(Refusal, u64),
 }
 
 pub fn start() -> Feed
@@ -52,77 +72,84 @@ pub fn start() -> Feed
     }
 }
 
-fn smaller(a: usize, b: usize) -> usize
-    ensures { λ r. ⌜ r ≡ min a b ⌝ }
+// ---- what a call does
+
+fn of_next(r: BoxRecord, next: Next) -> Turn
+    ensures { λ t. ⌜ t ≡ Steps.ofNext r next ⌝ }
 {
-    if a < b {
-        return a;
+    match next {
+        Next::Same(opened) => Turn::Same(r, opened),
+        Next::Later(empty, opened) => Turn::Later(r, empty, opened),
+        Next::Refused(why, nth) => Turn::Refused(why, nth),
     }
-    b
 }
 
-// Works a frame of the first k boxes, or of as many as are lent.
-fn work_front(
-    feed: Feed,
-    k: usize,
-    floats: &mut [f32],
-    counters: &mut [u64],
-    boxes: &[f32],
-    out: &mut [u8],
-    work64: &mut [f64],
-    work32: &mut [f32],
-    text: &mut [u8],
-) -> Worked
-    requires { ⌜ hasRoom (length (now out)) (length (now text)) ≡ true ⌝ }
-    ensures { λ r. ⌜ workWith r (lentWith (now (floats .exit)) (now (counters .exit)) (now (out .exit)) (now (work64 .exit)) (now (work32 .exit)) (now (text .exit)))
-        ≡ Spec.workFront feed k (now (boxes .entry)) (lentWith (now (floats .entry)) (now (counters .entry)) (now (out .entry)) (now (work64 .entry)) (now (work32 .entry)) (now (text .entry))) ⌝ }
+fn of_ending(ending: Ending) -> Turn
+    ensures { λ t. ⌜ t ≡ Steps.ofEnding ending ⌝ }
 {
-    let table = feed.table;
-    let first = feed.opened.first;
-    let end = smaller(k, boxes.len() / 5) * 5;
-    work_frame(
-        table,
-        first,
-        floats,
-        counters,
-        &boxes[..end],
-        out,
-        work64,
-        work32,
-        text,
-    )
+    match ending {
+        Ending::Clean => Turn::Last,
+        Ending::Refused(why, nth) => Turn::Refused(why, nth),
+    }
 }
 
-// Works the open frame, if there is one.
-fn work_open(
-    feed: Feed,
-    floats: &mut [f32],
-    counters: &mut [u64],
-    boxes: &[f32],
-    out: &mut [u8],
-    work64: &mut [f64],
-    work32: &mut [f32],
-    text: &mut [u8],
-) -> Worked
-    requires { ⌜ hasRoom (length (now out)) (length (now text)) ≡ true ⌝ }
-    ensures { λ r. ⌜ workWith r (lentWith (now (floats .exit)) (now (counters .exit)) (now (out .exit)) (now (work64 .exit)) (now (work32 .exit)) (now (text .exit)))
-        ≡ Spec.workOpen feed (now (boxes .entry)) (lentWith (now (floats .entry)) (now (counters .entry)) (now (out .entry)) (now (work64 .entry)) (now (work32 .entry)) (now (text .entry))) ⌝ }
+fn turn_of(feed: Feed, item: Item) -> Turn
+    ensures { λ t. ⌜ t ≡ Steps.turnOf feed item ⌝ }
 {
-    let table = feed.table;
-    if feed.opened.frame == 0 {
-        return Worked::Done(table, 0);
+    if 0 < feed.empty {
+        return Turn::Empty;
     }
-    work_front(
-        feed,
-        feed.opened.boxes,
-        floats,
-        counters,
-        boxes,
-        out,
-        work64,
-        work32,
-        text,
-    )
+    let opened = feed.opened;
+    match item {
+        Item::Record(r) => of_next(r, judge(opened, r.frame)),
+        Item::End(rest) => of_ending(close(opened, rest)),
+    }
+}
+
+// The open frame, if there is one.
+fn open_task(opened: OpenFrame) -> Task
+    ensures { λ t. ⌜ t ≡ Steps.openTask opened ⌝ }
+{
+    if opened.frame == 0 {
+        return Task::Nothing;
+    }
+    Task::Frame(opened.boxes)
+}
+
+fn task_of(opened: OpenFrame, turn: Turn) -> Task
+    ensures { λ t. ⌜ t ≡ Steps.taskOf opened turn ⌝ }
+{
+    match turn {
+        Turn::Empty => Task::Frame(0),
+        Turn::Same(_, _) => Task::Nothing,
+        Turn::Later(_, _, _) => open_task(opened),
+        Turn::Last => open_task(opened),
+        Turn::Refused(why, nth) => Task::Refused(why, nth),
+    }
+}
+
+// ---- what follows of it
+
+// Stores the first box of a new frame, unless the frame before it was turned down.
+fn hold_first(r: BoxRecord, worked: Worked, boxes: &mut [f32])
+    ensures { λ _. ⌜ now (boxes .exit) ≡ Spec.boxesThen r worked (now (boxes .entry)) ⌝ }
+{
+    let Worked::Done(_, _) = worked else {
+        return;
+    };
+    hold(r, 0, boxes);
+}
+
+fn hold_turn(held: usize, turn: Turn, worked: Worked, boxes: &mut [f32])
+    ensures { λ _. ⌜ now (boxes .exit) ≡ Steps.boxesTurn held turn worked (now (boxes .entry)) ⌝ }
+{
+    match turn {
+        Turn::Empty => {}
+        Turn::Same(r, _) => hold(r, held, boxes),
+        Turn::Later(r, _, _) => hold_first(r, worked, boxes),
+        Turn::Last => {}
+        Turn::Refused(_, _) => {}
+    }
 }
 
 fn one_less(n: u32) -> u32
@@ -152,15 +179,6 @@ fn again(feed: Feed, worked: Worked) -> Fed
     }
 }
 
-fn ended(worked: Worked) -> Fed
-    ensures { λ r. ⌜ r ≡ Spec.lastThen worked ⌝ }
-{
-    match worked {
-        Worked::Done(_, n) => Fed::Ended(n),
-        Worked::Stopped(n) => Fed::Ended(n),
-    }
-}
-
 fn later(empty: u32, opened: OpenFrame, worked: Worked) -> Fed
     ensures { λ r. ⌜ r ≡ Spec.laterThen empty opened worked ⌝ }
 {
@@ -177,95 +195,31 @@ fn later(empty: u32, opened: OpenFrame, worked: Worked) -> Fed
     }
 }
 
-// Stores the first box of a new frame, unless the frame before it was turned down.
-fn hold_first(r: BoxRecord, worked: Worked, boxes: &mut [f32])
-    ensures { λ _. ⌜ now (boxes .exit) ≡ Spec.boxesThen r worked (now (boxes .entry)) ⌝ }
+fn ended(worked: Worked) -> Fed
+    ensures { λ r. ⌜ r ≡ Spec.lastThen worked ⌝ }
 {
-    let Worked::Done(_, _) = worked else {
-        return;
-    };
-    hold(r, 0, boxes);
-}
-
-fn same(feed: Feed, opened: OpenFrame) -> Fed
-    ensures { λ r. ⌜ r ≡ Fed.Taken (Spec.feedWith opened 0 (feed .table)) 0 ⌝ }
-{
-    let table = feed.table;
-    Fed::Taken(
-        Feed {
-            opened,
-            empty: 0,
-            table,
-        },
-        0,
-    )
-}
-
-// A record of a later frame: the open one is worked.
-fn take_later(
-    feed: Feed,
-    r: BoxRecord,
-    empty: u32,
-    opened: OpenFrame,
-    floats: &mut [f32],
-    counters: &mut [u64],
-    boxes: &mut [f32],
-    out: &mut [u8],
-    work64: &mut [f64],
-    work32: &mut [f32],
-    text: &mut [u8],
-) -> Fed
-    requires { ⌜ hasRoom (length (now out)) (length (now text)) ≡ true ⌝ }
-    ensures { λ a. ⌜ callWith a (lentWith (now (floats .exit)) (now (counters .exit)) (now (out .exit)) (now (work64 .exit)) (now (work32 .exit)) (now (text .exit))) (now (boxes .exit))
-        ≡ Spec.laterCall feed r empty opened (lentWith (now (floats .entry)) (now (counters .entry)) (now (out .entry)) (now (work64 .entry)) (now (work32 .entry)) (now (text .entry))) (now (boxes .entry)) ⌝ }
-{
-    let worked = work_open(feed, floats, counters, boxes, out, work64, work32, text);
-    hold_first(r, worked, boxes);
-    later(empty, opened, worked)
-}
-
-fn take_next(
-    feed: Feed,
-    r: BoxRecord,
-    next: Next,
-    floats: &mut [f32],
-    counters: &mut [u64],
-    boxes: &mut [f32],
-    out: &mut [u8],
-    work64: &mut [f64],
-    work32: &mut [f32],
-    text: &mut [u8],
-) -> Fed
-    requires { ⌜ hasRoom (length (now out)) (length (now text)) ≡ true ⌝ }
-    ensures { λ a. ⌜ callWith a (lentWith (now (floats .exit)) (now (counters .exit)) (now (out .exit)) (now (work64 .exit)) (now (work32 .exit)) (now (text .exit))) (now (boxes .exit))
-        ≡ Spec.nextThen feed r next (lentWith (now (floats .entry)) (now (counters .entry)) (now (out .entry)) (now (work64 .entry)) (now (work32 .entry)) (now (text .entry))) (now (boxes .entry)) ⌝ }
-{
-    match next {
-        Next::Same(opened) => {
-            hold(r, feed.opened.boxes, boxes);
-            same(feed, opened)
-        }
-        Next::Later(empty, opened) => take_later(
-            feed,
-            r,
-            empty,
-            opened,
-            floats,
-            counters,
-            boxes,
-            out,
-            work64,
-            work32,
-            text,
-        ),
-        Next::Refused(why, nth) => Fed::Ended(put_refused(stream::number(why), nth, text)),
+    match worked {
+        Worked::Done(_, n) => Fed::Ended(n),
+        Worked::Stopped(n) => Fed::Ended(n),
     }
 }
 
-// Hands a record on. Lent are the table of tracks, the open frame's boxes, the records that a frame puts out, what its work needs, and the text.
+fn answer(feed: Feed, turn: Turn, worked: Worked) -> Fed
+    ensures { λ r. ⌜ r ≡ Steps.answerTurn feed turn worked ⌝ }
+{
+    match turn {
+        Turn::Empty => again(feed, worked),
+        Turn::Same(_, opened) => later(0, opened, worked),
+        Turn::Later(_, empty, opened) => later(empty, opened, worked),
+        Turn::Last => ended(worked),
+        Turn::Refused(_, _) => ended(worked),
+    }
+}
+
+// Hands a record or the end on. Lent are the table of tracks, the open frame's boxes, the records that a frame puts out, what its work needs, and the text.
 pub fn take(
     feed: Feed,
-    r: BoxRecord,
+    item: Item,
     floats: &mut [f32],
     counters: &mut [u64],
     boxes: &mut [f32],
@@ -275,20 +229,18 @@ pub fn take(
     text: &mut [u8],
 ) -> Fed
     ensures { λ a. ⌜ callWith a (lentWith (now (floats .exit)) (now (counters .exit)) (now (out .exit)) (now (work64 .exit)) (now (work32 .exit)) (now (text .exit))) (now (boxes .exit))
-        ≡ Spec.taken feed r (lentWith (now (floats .entry)) (now (counters .entry)) (now (out .entry)) (now (work64 .entry)) (now (work32 .entry)) (now (text .entry))) (now (boxes .entry)) ⌝ }
+        ≡ Spec.fed feed item (lentWith (now (floats .entry)) (now (counters .entry)) (now (out .entry)) (now (work64 .entry)) (now (work32 .entry)) (now (text .entry))) (now (boxes .entry)) ⌝ }
 {
     if text.len() / 87 <= out.len() / 32 {
         return Fed::Short;
     }
-    if 0 < feed.empty {
-        let worked = work_front(feed, 0, floats, counters, boxes, out, work64, work32, text);
-        return again(feed, worked);
-    }
     let opened = feed.opened;
-    take_next(
-        feed,
-        r,
-        judge(opened, r.frame),
+    let turn = turn_of(feed, item);
+    let first = feed.opened.first;
+    let worked = work_task(
+        feed.table,
+        first,
+        task_of(opened, turn),
         floats,
         counters,
         boxes,
@@ -296,65 +248,7 @@ pub fn take(
         work64,
         work32,
         text,
-    )
-}
-
-fn finish_at(
-    feed: Feed,
-    ending: Ending,
-    floats: &mut [f32],
-    counters: &mut [u64],
-    boxes: &[f32],
-    out: &mut [u8],
-    work64: &mut [f64],
-    work32: &mut [f32],
-    text: &mut [u8],
-) -> Fed
-    requires { ⌜ hasRoom (length (now out)) (length (now text)) ≡ true ⌝ }
-    ensures { λ a. ⌜ callWith a (lentWith (now (floats .exit)) (now (counters .exit)) (now (out .exit)) (now (work64 .exit)) (now (work32 .exit)) (now (text .exit))) (now (boxes .entry))
-        ≡ Spec.endThen feed ending (lentWith (now (floats .entry)) (now (counters .entry)) (now (out .entry)) (now (work64 .entry)) (now (work32 .entry)) (now (text .entry))) (now (boxes .entry)) ⌝ }
-{
-    match ending {
-        Ending::Clean => {
-            let worked = work_open(feed, floats, counters, boxes, out, work64, work32, text);
-            ended(worked)
-        }
-        Ending::Refused(why, nth) => Fed::Ended(put_refused(stream::number(why), nth, text)),
-    }
-}
-
-// The input has ended, with so many bytes behind the last whole record.
-pub fn finish(
-    feed: Feed,
-    rest: usize,
-    floats: &mut [f32],
-    counters: &mut [u64],
-    boxes: &[f32],
-    out: &mut [u8],
-    work64: &mut [f64],
-    work32: &mut [f32],
-    text: &mut [u8],
-) -> Fed
-    ensures { λ a. ⌜ callWith a (lentWith (now (floats .exit)) (now (counters .exit)) (now (out .exit)) (now (work64 .exit)) (now (work32 .exit)) (now (text .exit))) (now (boxes .entry))
-        ≡ Spec.finished feed rest (lentWith (now (floats .entry)) (now (counters .entry)) (now (out .entry)) (now (work64 .entry)) (now (work32 .entry)) (now (text .entry))) (now (boxes .entry)) ⌝ }
-{
-    if text.len() / 87 <= out.len() / 32 {
-        return Fed::Short;
-    }
-    if 0 < feed.empty {
-        let worked = work_front(feed, 0, floats, counters, boxes, out, work64, work32, text);
-        return again(feed, worked);
-    }
-    let opened = feed.opened;
-    finish_at(
-        feed,
-        close(opened, rest),
-        floats,
-        counters,
-        boxes,
-        out,
-        work64,
-        work32,
-        text,
-    )
+    );
+    hold_turn(feed.opened.boxes, turn, worked, boxes);
+    answer(feed, turn, worked)
 }

@@ -5,6 +5,6 @@ mod lines;
 
 pub use feed::Fed;
 pub use feed::Feed;
-pub use feed::finish;
+pub use feed::Item;
 pub use feed::start;
 pub use feed::take;

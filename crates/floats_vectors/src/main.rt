@@ -6,8 +6,10 @@
 // is the exponent of powi; a function of one operand does not look at the second. The result is the
 // bit pattern of an f32, and 7fc00000 for every NaN. A row of any other form gets the result
 // `bad line`. At the end of the input, or where it stops inside a row, the program ends.
-use check::same;
 ghost use Prim.Native.Nat.{_<_};
+use check::same;
+use vectors::floats::bits;
+use vectors::floats::float_of;
 
 enum Function {
     Max,
@@ -82,21 +84,6 @@ fn word_of(digits: &[u8]) -> Operand {
     Operand::Word(word)
 }
 
-// The f32 of a pattern, and one NaN for every pattern that is a NaN.
-fn float_of(bits: u32) -> f32 {
-    if bits % 0x8000_0000 > 0x7f80_0000 {
-        return 0.0 / 0.0;
-    }
-    f32::from_bits(bits)
-}
-
-fn bits_of(x: f32) -> u32 {
-    if x != x {
-        return 0x7fc0_0000;
-    }
-    f32::to_bits(x)
-}
-
 // The i32 of a pattern.
 fn signed_of(bits: u32) -> i32 {
     if bits < 0x8000_0000 {
@@ -145,7 +132,7 @@ fn write_outcome(outcome: Outcome) -> bool {
     let Outcome::Value(r) = outcome else {
         return io::write_all(1, b"bad line\n");
     };
-    io::print_hex(1, bits_of(r) as u64, 8);
+    io::print_hex(1, bits(r) as u64, 8);
     io::write_all(1, b"\n")
 }
 

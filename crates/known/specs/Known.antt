@@ -27,8 +27,8 @@ use Rattle.lapjv_definition.specs.Ccrt.{rowFrom, rowsFrom, colsFrom, minFrom, r
 use Rattle.lapjv_definition.specs.Entry.{ownerOf, isFree, rowOf}
 use Rattle.lapjv_definition.specs.Lapjv.{roundsFrom, lapjv}
 use Rattle.lapjv_definition.specs.Path.{searchStep, searchFrom, findPathDense}
-use Rattle.assoc.specs.Matching.{boxesOf, tracksOf, above, simple, simpleMatches, costCell, costVec, isErr, extract, extracted, Matched, matchDetections}
-use Rattle.assoc.specs.Assignment.{Assignment, linearAssignment}
+use Rattle.matching.specs.Matching.{boxesOf, tracksOf, above, simple, simpleMatches, costCell, costVec, isErr, extract, extracted, Matched, matchDetections}
+use Rattle.matching.specs.Assignment.{Assignment, linearAssignment}
 
 abbrev whole : ℕ → Float
 whole n = ofInt binary32 (pos n)

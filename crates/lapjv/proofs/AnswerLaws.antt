@@ -10,6 +10,7 @@ use lib.Ieee.{Float}
 use Rattle.laws.specs.Choose.{cond-no, cond-yes}
 use Rattle.lapjv.specs.Answers.{refusalNumber, verdictOf, numberOf, turnsOf, scansOf, answerFor, slice, Answered}
 use Rattle.lapjv_definition.specs.Bounds.{Bounds, Paired}
+use Rattle.lapjv_definition.specs.Halves.{assigning}
 use Rattle.lapjv_definition.specs.Invariant.{Ready}
 use Rattle.lapjv_definition.specs.Lapjv.{Assignment, assignment, lapjv}
 use Rattle.lapjv.specs.declared.Answer.the-variants.{Assigned, Refused}
@@ -19,6 +20,7 @@ use Rattle.lapjv.specs.declared.Refusal.the-variants.{NoSide, SideAbove2
 use Rattle.lapjv.specs.declared.Refusal.{Refusal}
 use Rattle.lapjv.specs.declared.Verdict.the-variants.{Fits, Unfit}
 use Rattle.lapjv.specs.declared.Verdict.{Verdict}
+use Rattle.lapjv_definition.proofs.HalvesLaws.{fitted, assigning-does}
 use Rattle.lapjv_definition.proofs.Theorem.{bounds}
 
 -- ---- the verdict
@@ -90,9 +92,9 @@ refuse {why = why} h = record {
 }
 
 pub accept : {n : ℕ} {cost : List Float} {x y : List ℕ} {c : Counts} {x′ y′ : List ℕ} → verdictOf n (length cost) (length x) (length y) ≡ Fits
-    → assignment 0 x′ y′ (c .turns) (c .scans) ≡ lapjv n cost → Answered n cost x y (Assigned c) x′ y′
+    → assignment 0 x′ y′ (c .turns) (c .scans) ≡ assigning n cost x y → Answered n cost x y (Assigned c) x′ y′
 unfolding answerFor slice numberOf turnsOf scansOf
-accept {n} {cost} {x} {y} {c} {x′} {y′} h e = record {
+accept {n} {cost} {x} {y} {c} {x′} {y′} h given = record {
   answer = rw h (ap (λ (w : Assignment). Assigned (record { turns = w .turns; scans = w .scans })) e);
   xs = rw h ex;
   ys = rw h ey;
@@ -101,8 +103,14 @@ accept {n} {cost} {x} {y} {c} {x′} {y′} h e = record {
   scans = rw (ap (λ (w : Assignment). w .scans) e) (all .scans);
 }
   where
+    sizes : Ready n cost x y
+    sizes = ready h
+
+    e : assignment 0 x′ y′ (c .turns) (c .scans) ≡ lapjv n cost
+    e = given ∙ assigning-does n cost x y (fitted (sizes .square) (sizes .rows) (sizes .cols))
+
     all : Bounds n cost
-    all = bounds n cost (ready {n = n} {cost = cost} {x = x} {y = y} h .square .some)
+    all = bounds n cost (sizes .square .some)
 
     ex : x′ ≡ lapjv n cost .x
     ex = ap (λ (w : Assignment). w .x) e

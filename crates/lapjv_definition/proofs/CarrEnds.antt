@@ -13,7 +13,7 @@ use Rattle.lapjv_definition.proofs.Own.{Own, own-take}
 own-turn : (n nFreeRows : ℕ) (cost : List Float) (s : Carrying) → 1 ≤ n → nFreeRows ≤ n → CarrOk n nFreeRows s → Own n nFreeRows s → s .current < nFreeRows → Own n nFreeRows (carrTurn n cost s)
 own-turn n nFreeRows cost s some nf ok own more =
     let k = turn-take n cost s some in
-    rw (k .turn) (own-take n nFreeRows s own (ok .len-y) (ok .len-x) (ok .len-free) more nf (ok .new) (k .v) (k .j) (k .col) (ok .below (s .current) (omega (arith, ok .len-free))) (k .retry))
+    rw (k .turn) (own-take n nFreeRows s own (ok .len-y) (ok .len-x) (ok .len-free) more nf (ok .new) (k .v) (k .j) (k .col) (ok .below (s .current) more) (k .retry))
 
 pub record Ended (n nFreeRows : ℕ) (s : Carrying) : Type 0 where
   pub ok : CarrOk n nFreeRows s

@@ -4,13 +4,13 @@ use mathlib.Core.Bool.{Bool, true, false, cond, _&&_, not}
 use mathlib.Core.List.{List}
 use Prim.Native.Nat.{ℕ, zero, suc, _+_, _-_, _*_, _<_, _≤_}
 use native.Mathlib.Omega.{arith}
-use native.Mathlib.Decide.{decLt}
+use native.Mathlib.Decide.{ℕ-discrete, decLt}
 use native.Mathlib.Nat.{mul-le-mul-right, add-mul, one-mul, sub-zero}
 use borrow.Author.Tests.{lt-ltb, le-ltb, ltb-true}
 use lib.Dec.{ltb}
 use lib.ListN.{length, getD, set, length-set}
+use lib.Seq.{getD-set-same, getD-set-other}
 use lib.Ieee.{Float, nan, lt, le}
-use Rattle.laws.specs.Below.{Below, below-set}
 use Rattle.laws.specs.Fuel.{fuel-suc, fuel-zero}
 use Rattle.lapjv_definition.specs.Carr.{two, twoStep, twoFrom, carrTwo, Carrying, carrying, carrRow, carrTurn, carrFrom, carrDence}
 use Rattle.lapjv_definition.specs.Cost.{at, _⊖_, large}
@@ -87,7 +87,15 @@ pub record CarrOk (n nFreeRows : ℕ) (s : Carrying) : Type 0 where
   pub len-x : length (s .x) ≡ n
   pub len-y : length (s .y) ≡ n
   pub len-v : length (s .v) ≡ n
-  pub below : Below n (s .freeRows)
+  pub below : (k : ℕ) → k < nFreeRows → getD (s .freeRows) k 0 < n
+
+-- a store of a row among the first m free rows keeps them rows
+rows-set : (n m : ℕ) (l : List ℕ) (i r : ℕ) → ((k : ℕ) → k < m → getD l k 0 < n) → i < length l → r < n → (k : ℕ) → k < m → getD (set l i r) k 0 < n
+rows-set n m l i r b il h k km = go (ℕ-discrete k i)
+  where
+    go : Dec (k ≡ i) → getD (set l i r) k 0 < n
+    go (yes e) = rw (e, getD-set-same l i r 0 il) h
+    go (no e) = rw (getD-set-other l i k r 0 e) (b k km)
 
 module _ (n nFreeRows : ℕ) (some : 1 ≤ n) (nf : nFreeRows ≤ n) (s : Carrying) (ok : CarrOk n nFreeRows s) (more : s .current < nFreeRows) where
   take-ok : (retry : Bool) (i j : ℕ) (v : List Float) → i < n → j < n → length v ≡ n → (retry ≡ true → s .rrCnt + 1 < (s .current + 1) * n)
@@ -108,7 +116,7 @@ module _ (n nFreeRows : ℕ) (some : 1 ≤ n) (nf : nFreeRows ≤ n) (s : Carryi
         len-x = length-set (s .x) i j ∙ ok .len-x;
         len-y = length-set (s .y) j i ∙ ok .len-y;
         len-v = hv;
-        below = below-set n (s .freeRows) (s .current) r (ok .below) (ltb-true r n e);
+        below = rows-set n nFreeRows (s .freeRows) (s .current) r (ok .below) (omega (arith, ok .len-free)) (ltb-true r n e);
       }
       go true e false h = record {
         cur = omega arith;
@@ -119,7 +127,7 @@ module _ (n nFreeRows : ℕ) (some : 1 ≤ n) (nf : nFreeRows ≤ n) (s : Carryi
         len-x = length-set (s .x) i j ∙ ok .len-x;
         len-y = length-set (s .y) j i ∙ ok .len-y;
         len-v = hv;
-        below = below-set n (s .freeRows) (s .newFreeRows) r (ok .below) (ltb-true r n e);
+        below = rows-set n nFreeRows (s .freeRows) (s .newFreeRows) r (ok .below) (omega (arith, ok .len-free, ok .new)) (ltb-true r n e);
       }
       go false e t h = record {
         cur = omega arith;
@@ -239,7 +247,7 @@ turn-take n cost s some = record {
 pub turn-ok : (n nFreeRows : ℕ) (cost : List Float) (s : Carrying) → 1 ≤ n → nFreeRows ≤ n → CarrOk n nFreeRows s → s .current < nFreeRows → CarrOk n nFreeRows (carrTurn n cost s)
 turn-ok n nFreeRows cost s some nf ok more =
     let k = turn-take n cost s some in
-    rw (k .turn) (take-ok n nFreeRows some nf s ok more (k .retry) _ (k .j) (k .v) (ok .below (s .current) (omega (arith, ok .len-free))) (k .col) (k .len ∙ ok .len-v) (k .early))
+    rw (k .turn) (take-ok n nFreeRows some nf s ok more (k .retry) _ (k .j) (k .v) (ok .below (s .current) more) (k .col) (k .len ∙ ok .len-v) (k .early))
 
 take-room : (n : ℕ) (s : Carrying) → 1 ≤ n → Room n s → (retry : Bool) (i j : ℕ) (v : List Float) → (retry ≡ true → s .rrCnt + 1 < (s .current + 1) * n) → Room n (carrTake n retry i j v s)
 unfolding carrTake
@@ -304,7 +312,7 @@ carr-less {n} {cost} {nFreeRows} {R} {s} {s′} inv some more e =
 pub carr-small : {n : ℕ} {cost : List Float} {nFreeRows : ℕ} {R s : Carrying} → CarrInv n cost nFreeRows R s → n ≤ 255 → nFreeRows ≤ n → s .rrCnt < 65536
 carr-small {n} {cost} {nFreeRows} inv h nf = omega (arith, inv .ok .bound, mul-le-mul-right {m = nFreeRows} {n = n} n nf, square-small n h)
 
-pub carr-start : {n : ℕ} {cost : List Float} {nFreeRows : ℕ} {freeRows x y : List ℕ} {v : List Float} → 1 ≤ n → Below n freeRows
+pub carr-start : {n : ℕ} {cost : List Float} {nFreeRows : ℕ} {freeRows x y : List ℕ} {v : List Float} → 1 ≤ n → ((k : ℕ) → k < nFreeRows → getD freeRows k 0 < n)
     → length freeRows ≡ n → length x ≡ n → length y ≡ n → length v ≡ n
     → CarrInv n cost nFreeRows (carrDence n cost nFreeRows freeRows x y v) (carrying 0 0 0 freeRows x y v)
 carr-start {n} {cost} {nFreeRows} some b lf lx ly lv = record {

@@ -116,7 +116,7 @@ pub record RedOk (n i : ℕ) (x : List ℕ) (s : Reduced) : Type 0 where
   pub once : (a : ℕ) → a < i → total (is a) (s .freeRows) (s .nFreeRows) 0 + taken n (getD x a 0) ≡ 1
   pub later : (a : ℕ) → i ≤ a → total (is a) (s .freeRows) (s .nFreeRows) 0 ≡ 0
   pub sum : s .nFreeRows + total (taken n) x i 0 ≡ i
-  pub below : (k : ℕ) → k < n → getD (s .freeRows) k 0 < n
+  pub below : (k : ℕ) → k < s .nFreeRows → getD (s .freeRows) k 0 < n
   pub len-v : length (s .v) ≡ n
 
 module _ (n i : ℕ) (x : List ℕ) (s : Reduced) (o : RedOk n i x s) (hi : i < n) where
@@ -145,9 +145,9 @@ module _ (n i : ℕ) (x : List ℕ) (s : Reduced) (o : RedOk n i x s) (hi : i < 
       go a ha (yes e) = rw e (omega (arith, o .later i (omega arith), is-same i i refl, taken-none n (getD x i 0) h))
       go a ha (no e) = omega (arith, o .once a (omega arith), is-other a i e)
 
-      bl : (k : ℕ) → k < n → Dec (k ≡ s .nFreeRows) → getD (set (s .freeRows) (s .nFreeRows) i) k 0 < n
+      bl : (k : ℕ) → k < s .nFreeRows + 1 → Dec (k ≡ s .nFreeRows) → getD (set (s .freeRows) (s .nFreeRows) i) k 0 < n
       bl k hk (yes e) = rw (e, getD-set-same (s .freeRows) (s .nFreeRows) i 0 (omega (arith, o .low, o .len))) hi
-      bl k hk (no e) = rw (getD-set-other (s .freeRows) (s .nFreeRows) k i 0 e) (o .below k hk)
+      bl k hk (no e) = rw (getD-set-other (s .freeRows) (s .nFreeRows) k i 0 e) (o .below k (omega arith))
 
   skips : getD x i 0 < n → (v : List Float) → length v ≡ n → RedOk n (i + 1) x (reduced (s .freeRows) (s .nFreeRows) v)
   skips h v lv = record {

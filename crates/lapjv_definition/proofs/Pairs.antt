@@ -6,7 +6,7 @@ use Prim.Native.Nat.{ℕ, zero, suc, _+_, _-_, _*_, _<_, _≤_}
 use native.Mathlib.Omega.{arith}
 use native.Mathlib.Decide.{ℕ-discrete, decLt}
 use native.Mathlib.Nat.{zero-add, sub-zero, one-mul, suc-mul, mul-suc, mul-le-mul-right, mul-le-mul-left, mul-comm, le-trans}
-use lib.ListN.{getD, replicate, length-replicate, getD-replicate}
+use lib.ListN.{length, getD, replicate, length-replicate}
 use lib.Ieee.{Float}
 use Rattle.laws.specs.Tab.{tab, length-tab, tab-at}
 use Rattle.laws.specs.Total.{total-zero, total-find, total, is}
@@ -16,13 +16,14 @@ use Rattle.lapjv_definition.specs.Carr.{Carrying, carrying, carrDence}
 use Rattle.lapjv_definition.specs.Ccrt.{Prices, prices, rowsFrom, colsFrom, Taken, Reduced, reduced, reduceFrom, Ccrt, ccrtDense, taken as takenAt}
 use Rattle.lapjv_definition.specs.Cost.{large}
 use Rattle.lapjv_definition.specs.Invariant.{taken, tri, CaOk}
-use Rattle.lapjv_definition.specs.Lapjv.{Rounds, rounds, Assignment, assignment, lapjv}
+use Rattle.lapjv_definition.specs.Halves.{roundsOver}
+use Rattle.lapjv_definition.specs.Lapjv.{Rounds, roundsAt, rounds, Assignment, assignment, lapjv}
 use Rattle.lapjv_definition.proofs.CaEnds.{Open, ca-open, ca-passes}
 use Rattle.lapjv_definition.proofs.CarrEnds.{Ended, carr-ends}
 use Rattle.lapjv_definition.proofs.CarrLaws.{CarrOk}
 use Rattle.lapjv_definition.proofs.CcrtEnds.{ColOk, cols-ok, RedOk, reds-ok, RowOk, rows-ok}
 use Rattle.lapjv_definition.proofs.Own.{Own}
-use Rattle.lapjv_definition.proofs.Rounds.{two-rounds, lapjv-plain}
+use Rattle.lapjv_definition.proofs.Rounds.{two-rounds, finished, lapjv-plain}
 use Rattle.lapjv_definition.proofs.SearchLaws.{taken-row, taken-none, total-le}
 
 -- ---- all columns have rows
@@ -62,8 +63,8 @@ again n nFreeRows s e = record {
   sum = omega (arith, e .own .sum, e .done);
 }
 
-okay : (n nFreeRows m : ℕ) (s : Carrying) → 1 ≤ n → CarrOk n nFreeRows s → CarrOk n m (carrying 0 0 0 (s .freeRows) (s .x) (s .y) (s .v))
-okay n nFreeRows m s some o = record {
+okay : (n nFreeRows m : ℕ) (s : Carrying) → 1 ≤ n → m ≤ nFreeRows → CarrOk n nFreeRows s → CarrOk n m (carrying 0 0 0 (s .freeRows) (s .x) (s .y) (s .v))
+okay n nFreeRows m s some few o = record {
   cur = omega arith;
   new = omega arith;
   room = omega (arith, one-mul n);
@@ -72,7 +73,7 @@ okay n nFreeRows m s some o = record {
   len-x = o .len-x;
   len-y = o .len-y;
   len-v = o .len-v;
-  below = o .below;
+  below = λ k hk. o .below k (omega arith);
 }
 
 tri-is : (n : ℕ) → tri n + tri n + n ≡ n * n
@@ -87,7 +88,8 @@ unfolding total
 none-taken n zero a h = refl
 none-taken n (suc m) a h = rw (tab-at (λ i. n) n a 0 (omega arith)) (omega (arith, none-taken n m (a + 1) (omega arith), taken-none n n (omega arith)))
 
-module _ (n : ℕ) (some : 1 ≤ n) (cost : List Float) where
+-- over any first free rows F
+module _ (n : ℕ) (some : 1 ≤ n) (cost : List Float) (F : List ℕ) (len : length F ≡ n) where
   first : RowOk n (rowsFrom n cost n 0 (prices (tab (λ i. 0) n) (tab (λ i. large) n)))
   first = rows-ok n cost n 0 _ (omega arith)
       (record { len-y = length-tab (λ i. 0) n; len-v = length-tab (λ i. large) n; rows = λ k hk. rw (tab-at {A = ℕ} (λ i. 0) n k 0 hk) some })
@@ -112,17 +114,17 @@ module _ (n : ℕ) (some : 1 ≤ n) (cost : List Float) where
   })
 
   abbrev D : Reduced
-  D = reduceFrom n cost (T .x) (T .unique) n 0 (reduced (replicate n 0) 0 (P .v))
+  D = reduceFrom n cost (T .x) (T .unique) n 0 (reduced F 0 (P .v))
 
   red : RedOk n n (T .x) D
-  red = reds-ok n cost (T .x) (T .unique) n 0 (reduced (replicate n 0) 0 (P .v)) (omega arith) (record {
+  red = reds-ok n cost (T .x) (T .unique) n 0 (reduced F 0 (P .v)) (omega arith) (record {
     to = omega arith;
-    len = length-replicate n 0;
+    len = len;
     low = omega arith;
     once = λ a ha. absurd (omega arith);
-    later = λ a ha. total-zero (is a) (replicate n 0) 0 0 refl;
+    later = λ a ha. total-zero (is a) F 0 0 refl;
     sum = omega (arith, total-zero (taken n) (T .x) 0 0 refl);
-    below = λ k hk. rw (getD-replicate {A = ℕ} n k 0 0 hk) some;
+    below = λ k hk. absurd (omega arith);
     len-v = first .len-v;
   })
 
@@ -147,7 +149,7 @@ module _ (n : ℕ) (some : 1 ≤ n) (cost : List Float) where
     len-x = cols .len-x;
     len-y = cols .len-y;
     len-v = red .len-v;
-    below = λ k hk. red .below k (omega (arith, red .len));
+    below = red .below;
   }
 
   abbrev B : Carrying
@@ -163,7 +165,7 @@ module _ (n : ℕ) (some : 1 ≤ n) (cost : List Float) where
   C = carrDence n cost (B .newFreeRows) (B .freeRows) (B .x) (B .y) (B .v)
 
   two : Ended n (B .newFreeRows) C
-  two = carr-ends n (B .newFreeRows) cost (B .freeRows) (B .x) (B .y) (B .v) some (omega (arith, fewer, fewer′)) (okay n (D .nFreeRows) (B .newFreeRows) B some (one .ok)) (again n (D .nFreeRows) B one)
+  two = carr-ends n (B .newFreeRows) cost (B .freeRows) (B .x) (B .y) (B .v) some (omega (arith, fewer, fewer′)) (okay n (D .nFreeRows) (B .newFreeRows) B some fewer′ (one .ok)) (again n (D .nFreeRows) B one)
 
   own₃ : Own n (C .newFreeRows) (carrying 0 0 0 (C .freeRows) (C .x) (C .y) (C .v))
   own₃ = again n (B .newFreeRows) C two
@@ -182,7 +184,7 @@ module _ (n : ℕ) (some : 1 ≤ n) (cost : List Float) where
   }
 
   within : (k : ℕ) → k < C .newFreeRows → getD (C .freeRows) k 0 < n
-  within k hk = two .ok .below k (omega (arith, two .ok .len-free, two .ok .new, two .ok .cur, fewer, fewer′))
+  within k hk = two .ok .below k (omega (arith, two .ok .new, two .ok .cur))
 
   -- after r passes of ca_dense
   at-pass : (r : ℕ) → r ≤ C .newFreeRows → CaOk n (C .newFreeRows) (C .freeRows) r (caFrom n cost (C .freeRows) r 0 (assigned (C .x) (C .y) (C .v) 0))
@@ -192,26 +194,93 @@ module _ (n : ℕ) (some : 1 ≤ n) (cost : List Float) where
   three : CaOk n (C .newFreeRows) (C .freeRows) (C .newFreeRows) E
   three = at-pass (C .newFreeRows) (omega arith)
 
+  -- at most 2 n (n - 1) row turns
+  turns : B .rrCnt + C .rrCnt ≤ 2 * (n * (n - 1))
+  turns = omega (arith, one .ok .bound, two .ok .bound, mul-le-mul-right {m = D .nFreeRows} {n = n - 1} n (omega (arith, fewer)), mul-le-mul-right {m = B .newFreeRows} {n = n - 1} n (omega (arith, fewer, fewer′)), mul-comm n (n - 1))
+
+  -- the first half, without its tests `ret > 0`
+  half : roundsOver n cost F ≡ roundsAt (C .newFreeRows) (B .rrCnt + C .rrCnt) (C .freeRows) (C .x) (C .y) (C .v)
+  half = two-rounds n cost _ ∙ ap (λ (k : ℕ). roundsAt (C .newFreeRows) (k + C .rrCnt) (C .freeRows) (C .x) (C .y) (C .v)) (zero-add (B .rrCnt))
+
+  -- ---- the first half as the code has it
+
+  module _ {z : Ccrt} (g : z ≡ ccrtDense n cost F) where
+    pub reduce-first : CarrOk n (z .nFreeRows) (carrying 0 0 0 (z .freeRows) (z .x) (z .y) (z .v))
+    reduce-first = subst (λ (w : Ccrt). CarrOk n (w .nFreeRows) (carrying 0 0 0 (w .freeRows) (w .x) (w .y) (w .v))) (sym g) ok
+
+    pub reduce-few : z .nFreeRows < n
+    reduce-few = subst (λ (w : Ccrt). w .nFreeRows < n) (sym g) fewer
+
+    module _ {s : Carrying} (e₁ : s ≡ carrDence n cost (z .nFreeRows) (z .freeRows) (z .x) (z .y) (z .v)) where
+      s-is : s ≡ B
+      s-is = e₁ ∙ ap (λ (w : Ccrt). carrDence n cost (w .nFreeRows) (w .freeRows) (w .x) (w .y) (w .v)) g
+
+      pub reduce-second : CarrOk n (s .newFreeRows) (carrying 0 0 0 (s .freeRows) (s .x) (s .y) (s .v))
+      reduce-second = subst (λ (w : Carrying). CarrOk n (w .newFreeRows) (carrying 0 0 0 (w .freeRows) (w .x) (w .y) (w .v))) (sym s-is) (okay n (D .nFreeRows) (B .newFreeRows) B some fewer′ (one .ok))
+
+      pub reduce-few₂ : s .newFreeRows ≤ n
+      reduce-few₂ = subst (λ (w : Carrying). w .newFreeRows ≤ n) (sym s-is) (omega (arith, fewer, fewer′))
+
+      module _ {t : Carrying} (e₂ : t ≡ carrDence n cost (s .newFreeRows) (s .freeRows) (s .x) (s .y) (s .v)) where
+        t-is : t ≡ C
+        t-is = e₂ ∙ ap (λ (w : Carrying). carrDence n cost (w .newFreeRows) (w .freeRows) (w .x) (w .y) (w .v)) s-is
+
+        pub reduce-small : n ≤ 255 → s .rrCnt + t .rrCnt ≤ 130050
+        reduce-small small = rw (s-is, t-is) (omega (arith, turns, le-trans (mul-le-mul-right (n - 1) small) (mul-le-mul-left 255 less)))
+          where
+            less : n - 1 ≤ 255
+            less = omega arith
+
+        pub reduce-result : roundsAt (t .newFreeRows) (s .rrCnt + t .rrCnt) (t .freeRows) (t .x) (t .y) (t .v) ≡ roundsOver n cost F
+        reduce-result =
+            ap (λ (w : Carrying). roundsAt (w .newFreeRows) (s .rrCnt + w .rrCnt) (w .freeRows) (w .x) (w .y) (w .v)) t-is
+            ∙ ap (λ (w : Carrying). roundsAt (C .newFreeRows) (w .rrCnt + C .rrCnt) (C .freeRows) (C .x) (C .y) (C .v)) s-is
+            ∙ sym half
+
+-- what the second half begins with
+pub record Begun (n : ℕ) (b : Rounds) : Type 0 where
+  pub few : b .ret ≤ n
+  pub below : (k : ℕ) → k < b .ret → getD (b .freeRows) k 0 < n
+  pub len-free : length (b .freeRows) ≡ n
+  pub len-v : length (b .v) ≡ n
+  pub ok : CaOk n (b .ret) (b .freeRows) 0 (assigned (b .x) (b .y) (b .v) 0)
+  pub turns : b .turns ≤ 2 * (n * (n - 1))
+
+-- over n zeros, as lapjv has it
+module _ (n : ℕ) (some : 1 ≤ n) (cost : List Float) where
+  abbrev Z : List ℕ
+  Z = replicate n 0
+
+  len-Z : length Z ≡ n
+  len-Z = length-replicate n 0
+
+  abbrev C₀ : Carrying
+  C₀ = C n some cost Z len-Z
+
+  abbrev B₀ : Carrying
+  B₀ = B n some cost Z len-Z
+
+  abbrev E₀ : Assigned
+  E₀ = E n some cost Z len-Z
+
   -- before each pass that lapjv makes, x and y are as the search needs them
   pub lapjv-passes : (rowN : ℕ) → rowN < rounds n cost .ret → Open n (getD (rounds n cost .freeRows) rowN 0) (passed n cost rowN .x) (passed n cost rowN .y)
   lapjv-passes = subst (λ (b : Rounds). (r : ℕ) → r < b .ret
       → Open n (getD (b .freeRows) r 0) (caFrom n cost (b .freeRows) r 0 (assigned (b .x) (b .y) (b .v) 0) .x) (caFrom n cost (b .freeRows) r 0 (assigned (b .x) (b .y) (b .v) 0) .y))
       (sym (two-rounds n cost _))
-      (λ r h. ca-open n (C .newFreeRows) (C .freeRows) within cost r _ (at-pass r (omega arith)) h)
+      (λ r h. ca-open n (C₀ .newFreeRows) (C₀ .freeRows) (within n some cost Z len-Z) cost r _ (at-pass n some cost Z len-Z r (omega arith)) h)
 
   -- the definition's result, without its tests `ret > 0`
-  plain : lapjv n cost ≡ assignment 0 (E .x) (E .y) (B .rrCnt + C .rrCnt) (E .scans)
-  plain = lapjv-plain n cost ∙ ap (λ (k : ℕ). assignment 0 (E .x) (E .y) (k + C .rrCnt) (E .scans)) (zero-add (B .rrCnt))
+  plain : lapjv n cost ≡ assignment 0 (E₀ .x) (E₀ .y) (B₀ .rrCnt + C₀ .rrCnt) (E₀ .scans)
+  plain = lapjv-plain n cost ∙ ap (λ (k : ℕ). assignment 0 (E₀ .x) (E₀ .y) (k + C₀ .rrCnt) (E₀ .scans)) (zero-add (B₀ .rrCnt))
 
   -- each row is paired with exactly one column and each column with exactly one row, the two lists telling the same pairs
   pub lapjv-pairs : Paired n (lapjv n cost .x) (lapjv n cost .y)
-  lapjv-pairs = rw plain (paired n (C .newFreeRows) (C .freeRows) E three)
+  lapjv-pairs = rw plain (paired n (C₀ .newFreeRows) (C₀ .freeRows) E₀ (three n some cost Z len-Z))
 
   -- at most 2 n (n - 1) row turns
   pub lapjv-turns : lapjv n cost .turns ≤ 2 * (n * (n - 1))
-  lapjv-turns =
-      rw plain
-      (omega (arith, one .ok .bound, two .ok .bound, mul-le-mul-right {m = D .nFreeRows} {n = n - 1} n (omega (arith, fewer)), mul-le-mul-right {m = B .newFreeRows} {n = n - 1} n (omega (arith, fewer, fewer′)), mul-comm n (n - 1)))
+  lapjv-turns = rw plain (turns n some cost Z len-Z)
 
   -- the Rust's last test
   pub lapjv-ret : lapjv n cost .ret ≡ 0
@@ -219,59 +288,29 @@ module _ (n : ℕ) (some : 1 ≤ n) (cost : List Float) where
 
   -- at most n (n - 1) / 2 column scans
   pub lapjv-scans : 2 * lapjv n cost .scans ≤ n * (n - 1)
-  lapjv-scans = rw plain (omega (arith, rw filled at (three .scans), tri-is n, mul-sub-one))
+  lapjv-scans = rw plain (omega (arith, rw filled at (three n some cost Z len-Z .scans), tri-is n, mul-sub-one))
     where
-      filled : total (taken n) (E .y) n 0 ≡ n
-      filled = omega (arith, three .sum)
+      filled : total (taken n) (E₀ .y) n 0 ≡ n
+      filled = omega (arith, three n some cost Z len-Z .sum)
 
       mul-sub-one : n * (n - 1) + n ≡ n * n
       mul-sub-one = let e : n ≡ suc (n - 1) = omega arith in sym (mul-suc n (n - 1)) ∙ ap (λ (z : ℕ). n * z) (sym e)
 
-  -- ---- the stages as the code has them
+  -- ---- the second half as the code has it
 
-  module _ {free₀ : List ℕ} {z : Ccrt} (ef : free₀ ≡ replicate n 0) (g : z ≡ ccrtDense n cost free₀) where
-    z-is : z ≡ ccrtDense n cost (replicate n 0)
-    z-is = rw ef at g
+  pub assign-begun : {b : Rounds} → b ≡ rounds n cost → Begun n b
+  assign-begun g = subst (λ (w : Rounds). Begun n w) (sym (g ∙ half n some cost Z len-Z)) (record {
+    few = omega (arith, two n some cost Z len-Z .ok .new, two n some cost Z len-Z .ok .cur, fewer n some cost Z len-Z, fewer′ n some cost Z len-Z);
+    below = within n some cost Z len-Z;
+    len-free = two n some cost Z len-Z .ok .len-free;
+    len-v = two n some cost Z len-Z .ok .len-v;
+    ok = begun n some cost Z len-Z;
+    turns = turns n some cost Z len-Z;
+  })
 
-    pub solve-first : CarrOk n (z .nFreeRows) (carrying 0 0 0 (z .freeRows) (z .x) (z .y) (z .v))
-    solve-first = subst (λ (w : Ccrt). CarrOk n (w .nFreeRows) (carrying 0 0 0 (w .freeRows) (w .x) (w .y) (w .v))) (sym z-is) ok
-
-    pub solve-few : z .nFreeRows < n
-    solve-few = subst (λ (w : Ccrt). w .nFreeRows < n) (sym z-is) fewer
-
-    module _ {s : Carrying} (e₁ : s ≡ carrDence n cost (z .nFreeRows) (z .freeRows) (z .x) (z .y) (z .v)) where
-      s-is : s ≡ B
-      s-is = e₁ ∙ ap (λ (w : Ccrt). carrDence n cost (w .nFreeRows) (w .freeRows) (w .x) (w .y) (w .v)) z-is
-
-      pub solve-second : CarrOk n (D .nFreeRows) s
-      solve-second = subst (λ (w : Carrying). CarrOk n (D .nFreeRows) w) (sym s-is) (one .ok)
-
-      pub solve-few₂ : s .newFreeRows ≤ n
-      solve-few₂ = omega (arith, solve-second .new, solve-second .cur, fewer)
-
-      module _ {t : Carrying} (e₂ : t ≡ carrDence n cost (s .newFreeRows) (s .freeRows) (s .x) (s .y) (s .v)) where
-        t-is : t ≡ C
-        t-is = e₂ ∙ ap (λ (w : Carrying). carrDence n cost (w .newFreeRows) (w .freeRows) (w .x) (w .y) (w .v)) s-is
-
-        pub solve-third : CarrOk n (B .newFreeRows) t
-        solve-third = subst (λ (w : Carrying). CarrOk n (B .newFreeRows) w) (sym t-is) (two .ok)
-
-        pub solve-few₃ : t .newFreeRows ≤ n
-        solve-few₃ = omega (arith, solve-third .new, solve-third .cur, fewer, fewer′)
-
-        pub solve-begun : CaOk n (t .newFreeRows) (t .freeRows) 0 (assigned (t .x) (t .y) (t .v) 0)
-        solve-begun = subst (λ (w : Carrying). CaOk n (w .newFreeRows) (w .freeRows) 0 (assigned (w .x) (w .y) (w .v) 0)) (sym t-is) begun
-
-        pub solve-small : n ≤ 255 → s .rrCnt + t .rrCnt ≤ 130050
-        solve-small small = rw (s-is, t-is) (omega (arith, lapjv-turns, ap (λ (w : Assignment). w .turns) plain, le-trans (mul-le-mul-right (n - 1) small) (mul-le-mul-left 255 less)))
-          where
-            less : n - 1 ≤ 255
-            less = omega arith
-
-        pub solve-result : {x y : List ℕ} {v : List Float} {c : ℕ} → assigned x y v c ≡ caFrom n cost (t .freeRows) (t .newFreeRows) 0 (assigned (t .x) (t .y) (t .v) 0)
-            → assignment 0 x y (s .rrCnt + t .rrCnt) c ≡ lapjv n cost
-        solve-result e₃ =
-            ap (λ (w : Assigned). assignment 0 (w .x) (w .y) (s .rrCnt + t .rrCnt) (w .scans)) e₃
-            ∙ ap (λ (w : Carrying). let e = caFrom n cost (w .freeRows) (w .newFreeRows) 0 (assigned (w .x) (w .y) (w .v) 0) in assignment 0 (e .x) (e .y) (s .rrCnt + w .rrCnt) (e .scans)) t-is
-            ∙ ap (λ (w : Carrying). assignment 0 (E .x) (E .y) (w .rrCnt + C .rrCnt) (E .scans)) s-is
-            ∙ sym plain
+  pub assign-result : {b : Rounds} → b ≡ rounds n cost → {x y : List ℕ} {v : List Float} {c : ℕ} → assigned x y v c ≡ caFrom n cost (b .freeRows) (b .ret) 0 (assigned (b .x) (b .y) (b .v) 0)
+      → assignment 0 x y (b .turns) c ≡ lapjv n cost
+  assign-result {b} g e =
+      ap (λ (w : Assigned). assignment 0 (w .x) (w .y) (b .turns) (w .scans)) e
+      ∙ ap (finished n cost) (g ∙ half n some cost Z len-Z)
+      ∙ sym plain

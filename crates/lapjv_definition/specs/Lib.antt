@@ -1,4 +1,4 @@
--- What a reader must believe of the assignment, in the order of lapjv.rs: Cost, Entry, Ccrt, Carr, Find, Scan, Path, Ca, Lapjv; then a known result, and
+-- What a reader must believe of the assignment, in the order of lapjv.rs: Cost, Entry, Ccrt, Carr, Find, Scan, Path, Ca, Lapjv; its two halves, Halves; then a known result, and
 -- the theorems, Bounds. Steps and Invariant are cited by the contracts of private functions alone.
 pub mod Cost
 pub mod Entry
@@ -9,6 +9,7 @@ pub mod Scan
 pub mod Path
 pub mod Ca
 pub mod Lapjv
+pub mod Halves
 pub mod Examples
 pub mod Bounds
 pub mod Steps

@@ -6,6 +6,8 @@ ghost use Prim.Native.Nat.{_<_, _≤_};
 mod matrices;
 mod text;
 
+use vectors::digest;
+
 // What lapjv answers, and the slices as it leaves them.
 fn call(n: usize, cost: &[f64], x: &mut [usize], y: &mut [usize]) {
     text::answer(lapjv::lapjv(n, cost, x, y));
@@ -19,7 +21,7 @@ fn replay(kind: usize, n: usize, cost: &mut [f64], x: &mut [usize], y: &mut [usi
     requires { ⌜ 0 < n ⌝ }
 {
     matrices::fill(kind, n, cost);
-    text::head(kind, n, matrices::digest(cost));
+    text::head(kind, n, digest::doubles(digest::START, cost));
     call(n, cost, x, y);
 }
 

@@ -1,15 +1,9 @@
 // The matrices: a kind and a side give one, each cell made from its place and a random number.
 // oracle/lapjv/matrices.rs makes the same.
 ghost use Prim.Native.Nat.{_<_};
+use vectors::random::next;
 
 pub(crate) const KINDS: usize = 17;
-
-// One step of a xorshift generator of 64 bits.
-fn next(r: u64) -> u64 {
-    let a = r ^ (r << 13);
-    let b = a ^ (a >> 7);
-    b ^ (b << 17)
-}
 
 // Where the random numbers of a matrix start: not at 0, which the generator never leaves.
 fn seed(kind: usize, n: usize) -> u64 {
@@ -159,21 +153,4 @@ pub(crate) fn fill(kind: usize, n: usize, cost: &mut [f64])
         r = next(r);
         cost[k] = cell(kind, n, k / n, k % n, r);
     }
-}
-
-// The bits of a cost; those of every NaN are the same.
-fn bits(c: f64) -> u64 {
-    if c != c {
-        return 0x7ff8000000000000;
-    }
-    f64::to_bits(c)
-}
-
-// A checksum of the costs' bits.
-pub(crate) fn digest(cost: &[f64]) -> u64 {
-    let mut sum = 1;
-    for k in 0..cost.len() {
-        sum = next(sum ^ bits(cost[k]));
-    }
-    sum
 }

@@ -1,14 +1,14 @@
--- Records laid over the front of a list: one changed in place, others laid over them, all read back, and a part behind them stored over. Assumes nothing.
+-- Records laid over the front of a list: one changed in place, others laid over them, and all read back. Assumes nothing.
 use mathlib.Core.Path.{_≡_, sym, ap, _∙_}
 use mathlib.Core.List.{List, [], _∷_, _++_, append-assoc, append-nil}
-use Prim.Native.Nat.{ℕ, zero, suc, _+_, _-_, _*_, _≤_, _<_}
-use native.Mathlib.Nat.{not-suc-le-zero, le-of-suc-le-suc, suc-mul, zero-mul, zero-add, add-comm, add-assoc, mul-le-mul-right}
+use Prim.Native.Nat.{ℕ, zero, suc, _+_, _*_, _≤_, _<_}
+use native.Mathlib.Nat.{not-suc-le-zero, le-of-suc-le-suc, suc-mul, zero-mul, zero-add, add-comm, add-assoc}
 use native.Mathlib.Omega.{arith}
 use lib.ListN.{length, length-set, set, take, drop, take-append-drop}
-use lib.Seq.{take-at, drop-at, take-append-add, drop-append-add, take-add}
+use lib.Seq.{drop-at, take-append-add, drop-append-add, take-add}
 use Rattle.laws.specs.Tab.{tab, length-tab}
 use Rattle.laws.specs.Splice.{splice}
-use Rattle.laws.specs.Laid.{rows, laid, rows-append, length-rows, laid-rest}
+use Rattle.laws.specs.Laid.{rows, laid, rows-append, laid-rest}
 
 -- what lies behind p is stored to
 splice-behind : {A : Type 0} (p q vs : List A) (k : ℕ) → splice (p ++ q) (length p + k) vs ≡ p ++ splice q k vs
@@ -50,14 +50,3 @@ module _ {X A : Type 0} (enc : X → List A) (s : ℕ) where
     pub laid-laid : (xs ys : List X) (l : List A) → length xs ≤ length ys → laid enc s ys (laid enc s xs l) ≡ laid enc s ys l
     unfolding laid
     laid-laid xs ys l h = ap (λ (r : List A). rows enc ys ++ r) (laid-rest enc s size xs l (length ys) h)
-
-    -- a part behind the records stored over, as far as `places` records go
-    pub laid-filled : (xs : List X) (l vs : List A) (places : ℕ) → length xs ≤ places → length vs ≡ places * s - length xs * s
-        → splice (laid enc s xs l) (length xs * s) vs ≡ rows enc xs ++ (vs ++ drop (places * s) l)
-    unfolding laid
-    laid-filled xs l vs places h e =
-        let n : ℕ = length xs * s in
-        let le : n ≤ places * s = mul-le-mul-right s h in
-        let b : n + length vs ≡ places * s = omega (arith, e) in
-        let t : take n (laid enc s xs l) ≡ rows enc xs = take-at (rows enc xs) (drop n l) n (length-rows enc s size xs) in
-        rw (b, t, laid-rest enc s size xs l places h)

@@ -3,7 +3,7 @@ use mathlib.Core.Path.{_≡_}
 use mathlib.Core.Bool.{true, false}
 use lib.Ieee.{Float}
 use Rattle.similarity.specs.declared.cost.AssociateParams.{AssociateParams}
-use Rattle.similarity.specs.declared.overlap.BoundingBox.{BoundingBox}
+use Rattle.boxes.specs.declared.overlap.BoundingBox.{BoundingBox}
 use Rattle.similarity.specs.Overlap.{overlap}
 use Rattle.similarity.specs.Cost.{confOf, costCell}
 use Rattle.similarity.specs.Steps.{sureCost, unsureCost}

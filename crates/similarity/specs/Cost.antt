@@ -7,7 +7,7 @@ use lib.ListN.{getD}
 use lib.Ieee.{Float, le}
 use Rattle.floats.specs.Single.{_⊕_, _⊗_, zero}
 use Rattle.similarity.specs.declared.cost.AssociateParams.{AssociateParams}
-use Rattle.similarity.specs.declared.overlap.BoundingBox.{BoundingBox}
+use Rattle.boxes.specs.declared.overlap.BoundingBox.{BoundingBox}
 use Rattle.similarity.specs.Overlap.{boxAt, overlap}
 use Rattle.similarity.specs.Shape.{shapeV1, shapeV2}
 

@@ -13,7 +13,7 @@ use Rattle.similarity.specs.declared.refusal.Refusal.the-variants.{TooMa
 use Rattle.similarity.specs.declared.refusal.Verdict.{Verdict}
 use Rattle.similarity.specs.declared.refusal.Verdict.the-variants.{Accepted, Refused}
 use Rattle.similarity.specs.declared.cost.AssociateParams.{AssociateParams}
-use Rattle.similarity.specs.declared.overlap.BoundingBox.{BoundingBox}
+use Rattle.boxes.specs.declared.overlap.BoundingBox.{BoundingBox}
 use Rattle.similarity.specs.Cost.{costCell}
 use Rattle.similarity.specs.Refusal.{verdictNumber, tooMany, verdict}
 

@@ -1,37 +1,9 @@
--- assoc.rs, shape_similarity_v1 and shape_similarity_v2: cell (i, j) of each matrix.
+-- assoc.rs, shape_similarity_v1 and shape_similarity_v2: cell (i, j) of each matrix. What a cell is of its two boxes: crates/boxes.
 use mathlib.Core.List.{List}
 use Prim.Native.Nat.{ℕ}
-use lib.Ieee.{Float, neg}
-use Rattle.floats.specs.Single.{_⊕_, _⊖_, _⊘_}
-use Rattle.floats.specs.Pick.{larger, abs}
-use Rattle.floats.specs.Exponential.{exp}
-use Rattle.similarity.specs.declared.overlap.BoundingBox.{BoundingBox}
+use lib.Ieee.{Float}
 use Rattle.similarity.specs.Overlap.{boxAt}
-
--- v1 divides both differences by the larger width
-abbrev pub exponentV1 : BoundingBox → BoundingBox → Float
-exponentV1 det trk =
-    let dw : Float = det .w in
-    let dh : Float = det .h in
-    let tw : Float = trk .w in
-    let th : Float = trk .h in
-    let denom : Float = larger dw tw in
-    neg (abs (dw ⊖ tw) ⊘ denom ⊕ abs (dh ⊖ th) ⊘ denom)
-
-unfoldable pub shapeV1 : BoundingBox → BoundingBox → Float
-shapeV1 det trk = exp (exponentV1 det trk)
-
--- v2 each by the larger of its own
-abbrev pub exponentV2 : BoundingBox → BoundingBox → Float
-exponentV2 det trk =
-    let dw : Float = det .w in
-    let dh : Float = det .h in
-    let tw : Float = trk .w in
-    let th : Float = trk .h in
-    neg (abs (dw ⊖ tw) ⊘ larger dw tw ⊕ abs (dh ⊖ th) ⊘ larger dh th)
-
-unfoldable pub shapeV2 : BoundingBox → BoundingBox → Float
-shapeV2 det trk = exp (exponentV2 det trk)
+unfoldable pub use Rattle.boxes.specs.Shape.{shapeV1, shapeV2}
 
 abbrev pub shapeSimilarityV1 : List Float → List Float → ℕ → ℕ → Float
 shapeSimilarityV1 detections tracks i j = shapeV1 (boxAt detections i) (boxAt tracks j)

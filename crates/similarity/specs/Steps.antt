@@ -8,7 +8,7 @@ use lib.Ieee.{Float, nan, neg, lt}
 use Rattle.laws.specs.Fold.{fold}
 use Rattle.floats.specs.Exponential.{exp}
 use Rattle.floats.specs.Single.{_⊕_, _⊖_, _⊗_, _⊘_, zero, one}
-use Rattle.similarity.specs.declared.overlap.BoundingBox.{BoundingBox}
+use Rattle.boxes.specs.declared.overlap.BoundingBox.{BoundingBox}
 use Rattle.similarity.specs.declared.cost.AssociateParams.{AssociateParams}
 use Rattle.similarity.specs.declared.batch.Measure.{Measure}
 use Rattle.similarity.specs.declared.batch.Measure.the-variants.{Iou, SoftBiou, ShapeV1, ShapeV2}

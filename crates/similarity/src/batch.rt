@@ -1,13 +1,13 @@
 // Matrices over two lists of corners: iou_batch, soft_biou_batch, shape_similarity_v1 and shape_similarity_v2 of assoc.rs, by one loop over the rows and, for each measure, its own over the cells of a row.
-use super::overlap::BoundingBox;
-use super::overlap::box_at;
-use super::overlap::overlap;
-use super::overlap::soft_biou;
+use super::corners::box_at;
 use super::refusal::Verdict;
-use super::shape::exponent_v1;
-use super::shape::exponent_v2;
 use super::sizes::of_confidences;
 use super::sizes::of_corners;
+use boxes::overlap::BoundingBox;
+use boxes::overlap::overlap;
+use boxes::overlap::soft_biou;
+use boxes::shape::exponent_v1;
+use boxes::shape::exponent_v2;
 ghost use mathlib.Core.Path.{_≡_};
 ghost use mathlib.Core.List.{[]};
 ghost use Prim.Native.Nat.{_*_};
@@ -19,7 +19,8 @@ ghost use Rattle.floats.specs.Single.{zero};
 ghost use Rattle.floats.specs.Exponential.{exp};
 ghost use Rattle.similarity.specs.Sizes.{ofCorners, ofConfidences, after};
 ghost use Rattle.similarity.specs.Overlap.{boxAt, overlap as overlapOf, softBiou, iouBatch, softBiouBatch};
-ghost use Rattle.similarity.specs.Shape.{exponentV1, exponentV2, shapeV1, shapeV2, shapeSimilarityV1, shapeSimilarityV2};
+ghost use Rattle.boxes.specs.Shape.{exponentV1, exponentV2};
+ghost use Rattle.similarity.specs.Shape.{shapeV1, shapeV2, shapeSimilarityV1, shapeSimilarityV2};
 ghost use Rattle.similarity.specs.Steps.{Ready, measured, measuredBatch};
 
 // What a cell says of a detection and a track.

@@ -1,12 +1,12 @@
 // The cost matrix of associate of assoc.rs, steps 1 to 4: overlap, confidences, distances and shapes of each detection and track.
 use super::batch::confidence_at;
-use super::overlap::BoundingBox;
-use super::overlap::box_at;
-use super::overlap::overlap;
+use super::corners::box_at;
 use super::refusal::Verdict;
-use super::shape::shape_v1;
-use super::shape::shape_v2;
 use super::sizes::of_corners;
+use boxes::overlap::BoundingBox;
+use boxes::overlap::overlap;
+use boxes::shape::shape_v1;
+use boxes::shape::shape_v2;
 ghost use mathlib.Core.Path.{_≡_};
 ghost use mathlib.Core.Bool.{cond};
 ghost use Prim.Native.Nat.{_*_};

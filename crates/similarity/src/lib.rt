@@ -1,10 +1,9 @@
 // The matrices of assoc.rs, over lent flat slices: a row for each detection, a cell for each track.
 mod batch;
+mod corners;
 mod cost;
 mod mahalanobis;
-mod overlap;
 mod refusal;
-mod shape;
 mod sizes;
 
 pub use batch::iou_batch;

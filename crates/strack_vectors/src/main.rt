@@ -8,6 +8,11 @@ use strack::rect::Xyah;
 use strack::rect::Xyxy;
 use strack::strack::KalmanBoxTracker;
 use strack::strack::TrackCorrection;
+use vectors::digest;
+use vectors::floats::real;
+use vectors::floats::word;
+use vectors::random::next;
+use vectors::random::part;
 
 const EDGES: [u64; 17] = [
     0,
@@ -29,24 +34,6 @@ const EDGES: [u64; 17] = [
     0xffff_ffff_ffff_ffff,
 ];
 
-// Xorshift: the next random number, and the step of a digest.
-fn next(x: u64) -> u64 {
-    let y = x ^ (x << 13);
-    let z = y ^ (y >> 7);
-    z ^ (z << 17)
-}
-
-// The bits of x, of one zero and one NaN.
-fn bits(x: f32) -> u32 {
-    if x != x {
-        0x7fc0_0000
-    } else if x == 0.0 {
-        0
-    } else {
-        f32::to_bits(x)
-    }
-}
-
 // ---- printing
 
 fn space() {
@@ -58,7 +45,7 @@ fn line_end() {
 }
 
 fn show(x: f32) {
-    io::print_hex(STDOUT_FILENO, bits(x) as u64, 8);
+    io::print_hex(STDOUT_FILENO, word(x), 8);
     space();
 }
 
@@ -101,8 +88,9 @@ fn show_counters(t: KalmanBoxTracker) {
 
 // ---- walks
 
-fn float_of(n: u64) -> f32 {
-    std::num::nearest_u32_to_f32((n % 65536) as u32)
+// Part k of a random number.
+fn drawn(random: u64, k: usize) -> f32 {
+    real(part(random, k))
 }
 
 fn corners(left: f32, top: f32, width: f32, height: f32) -> Xyxy {
@@ -112,11 +100,11 @@ fn corners(left: f32, top: f32, width: f32, height: f32) -> Xyxy {
 // A box of this kind out of 64 random bits: one that drifts, that jumps, a tiny one, one of 65536, one
 // turned over, a flat one, one far off.
 fn bbox(kind: u64, step: u64, random: u64) -> Xyxy {
-    let a = float_of(random);
-    let b = float_of(random / 65536);
-    let c = float_of(random / 0x1_0000_0000);
-    let d = float_of(random / 0x1_0000_0000_0000);
-    let n = float_of(step);
+    let a = drawn(random, 0);
+    let b = drawn(random, 1);
+    let c = drawn(random, 2);
+    let d = drawn(random, 3);
+    let n = real(step);
     match kind {
         0 => corners(
             n * 3.0 + a / 65536.0,
@@ -149,21 +137,17 @@ fn corrections(pattern: u64, step: u64, random: u64) -> u64 {
     }
 }
 
-fn mixed(digest: u64, x: f32) -> u64 {
-    next(digest ^ (bits(x) as u64))
-}
-
-fn mixed_pair(digest: u64, s: Pair) -> u64 {
-    let pv = mixed(mixed(digest, s.p), s.v);
-    let ab = mixed(mixed(pv, s.a), s.b);
-    mixed(mixed(ab, s.c), s.d)
+fn with_pair(sum: u64, s: Pair) -> u64 {
+    let pv = digest::float(digest::float(sum, s.p), s.v);
+    let ab = digest::float(digest::float(pv, s.a), s.b);
+    digest::float(digest::float(ab, s.c), s.d)
 }
 
 fn digest_of(t: KalmanBoxTracker) -> u64 {
-    let start = next(t.id ^ 0x9e37_79b9_7f4a_7c15);
-    let xy = mixed_pair(mixed_pair(start, t.kf.x), t.kf.y);
-    let hr = mixed_pair(mixed_pair(xy, t.kf.h), t.kf.r);
-    next(next(next(hr ^ t.since) ^ t.streak) ^ t.age)
+    let start = digest::join(t.id, 0x9e37_79b9_7f4a_7c15);
+    let xy = with_pair(with_pair(start, t.kf.x), t.kf.y);
+    let hr = with_pair(with_pair(xy, t.kf.h), t.kf.r);
+    digest::join(digest::join(digest::join(hr, t.since), t.streak), t.age)
 }
 
 // The box and the confidence, then a digest of the track whole.
@@ -340,10 +324,10 @@ fn listed_boxes() {
 
 fn random_rect(random: u64) -> Rect {
     Rect::new(
-        float_of(random) / 4096.0,
-        float_of(random / 65536) / 4096.0,
-        float_of(random / 0x1_0000_0000) / 4096.0,
-        float_of(random / 0x1_0000_0000_0000) / 4096.0,
+        drawn(random, 0) / 4096.0,
+        drawn(random, 1) / 4096.0,
+        drawn(random, 2) / 4096.0,
+        drawn(random, 3) / 4096.0,
     )
 }
 

@@ -1,33 +1,23 @@
 -- What the stages leave and what their loops know: the tracks passed lie in the front, and those to come are as they were. Assumes nothing.
 use mathlib.Core.Path.{_≡_, refl, sym, ap, _∙_}
 use mathlib.Core.Bool.{true, false}
-use mathlib.Core.List.{List, [], _∷_, _++_, map}
-use Prim.Native.Nat.{ℕ, _+_, _-_, _*_, _≤_, _<_, zero-le}
-use native.Mathlib.Nat.{le-refl, min-eq-right}
+use mathlib.Core.List.{List, [], _∷_, _++_, map, append-assoc, append-nil}
+use Prim.Native.Nat.{ℕ, zero, suc, _+_, _-_, _*_, _≤_, _<_, min, zero-le}
+use native.Mathlib.Nat.{le-refl, min-eq-right, zero-mul, suc-mul, add-mul, add-comm}
 use native.Mathlib.Numerals.{add-one}
 use native.Mathlib.Omega.{arith}
-use lib.ListN.{length, length-replicate, set, replicate}
+use lib.ListN.{length, length-append, length-replicate, set, drop, replicate, replicate-append-replicate}
 use lib.Seq.{set-out, take-at}
 use lib.Ieee.{Float}
 use borrow.Author.Tests.{le-leb, lt-leb}
 use Rattle.laws.specs.Tab.{tab, length-tab, map-tab}
 use Rattle.laws.specs.Kept.{Keeping, keep-start, keep-ahead, keep-on, keep-end}
 use Rattle.laws.specs.Splice.{splice}
-use Rattle.laws.specs.Laid.{laid}
-use Rattle.laws.specs.Records.{laid-filled}
+use Rattle.laws.specs.Laid.{rows, laid, rows-append}
 use Rattle.floats.specs.Single as single
-use Rattle.table.specs.Table.{Track, trackAt, floatsOf, countersOf, capacity, placed, tracks, pushed, young, Laying, Retired, filledUp, Emptied}
+use Rattle.table.specs.Table.{Track, trackAt, floatsOf, countersOf, blank, capacity, placed, tracks, pushed, young, Laying, Retired, filledUp, Emptied}
 use Rattle.table.specs.Steps.{Kept}
-use Rattle.table.specs.Laws.{Room, tracks-placed, tracks-many, lay-here, lay-none, lay-lengths, same-place, lay-behind, lay-on, lay-set, pushed-room}
-
--- a part of zeros behind the records
-filled-behind : {A : Type 0} (enc : Track → List A) (s : ℕ) → ((t : Track) → length (enc t) ≡ s) → (ts : List Track) (n places : ℕ) → n ≡ length ts → length ts ≤ places
-    → (nought : A) {l l′ : List A} → l ≡ laid enc s ts l → l′ ≡ splice l (n * s) (replicate (places * s - n * s) nought) → l′ ≡ filledUp enc s nought ts places l
-unfolding filledUp
-filled-behind {A} enc s size ts n places many few nought {l} {l′} here e =
-    let zeros : List A = replicate (places * s - length ts * s) nought in
-    let from : l′ ≡ splice l (length ts * s) zeros = rw many at e in
-    from ∙ ap (λ (m : List A). splice m (length ts * s) zeros) here ∙ laid-filled enc s size ts l zeros places few (length-replicate (places * s - length ts * s) nought)
+use Rattle.table.specs.Laws.{Room, capacity-room, tracks-placed, tracks-many, lay-here, lay-none, lay-lengths, same-place, lay-behind, lay-on, lay-set, pushed-room}
 
 -- ---- one track
 
@@ -49,20 +39,6 @@ module _ (f : List Float) (c : List ℕ) (held : ℕ) where
   not-appended t h =
       let n : length (tracks f c held) ≡ capacity (length f) (length c) = tracks-placed f c held ∙ min-eq-right h in
       rw (take-at (tracks f c held) (t ∷ []) (capacity (length f) (length c)) n) (lay-here f c held)
-
-  -- the places beyond are zeroed
-  pub emptied : {f′ : List Float} {c′ : List ℕ} {n places : ℕ} → n ≡ placed (length f) (length c) held → places ≡ capacity (length f) (length c)
-      → f′ ≡ splice f (n * 24) (replicate (places * 24 - n * 24) single.zero) → c′ ≡ splice c (n * 4) (replicate (places * 4 - n * 4) 0)
-      → Emptied f c (tracks f c held) f′ c′
-  emptied {f′} {c′} {n} {places} en ep ef ec =
-      let ts : List Track = tracks f c held in
-      let many : n ≡ length ts = en ∙ sym (tracks-placed f c held) in
-      let few : length ts ≤ places = rw (tracks-placed f c held, ep) (omega arith) in
-      let here = lay-here f c held in
-      record {
-        floats = rw (← ep) (filled-behind floatsOf 24 (λ _. refl) ts n places many few single.zero (here .floats) ef);
-        counters = rw (← ep) (filled-behind countersOf 4 (λ _. refl) ts n places many few 0 (here .counters) ec);
-      }
 
 -- ---- every track: those before i are replaced by h 0 .. h (i - 1)
 
@@ -145,3 +121,71 @@ module _ (oldest : ℕ) (f₀ : List Float) (c₀ : List ℕ) (n : ℕ) where
       let ef = keep-end floatsOf 24 (young oldest) (trackAt f₀ c₀) f₀ n (k .floats) h in
       let ec = keep-end countersOf 4 (young oldest) (trackAt f₀ c₀) c₀ n (k .counters) h in
       record { count = rw e at (ef .0); laying = record { floats = rw e at (ef .1); counters = rw e at (ec .1) } }
+
+-- ---- the places beyond: those from the one behind ts up to i are blank
+
+-- records of blank places are zeros
+module _ {A : Type 0} (enc : Track → List A) (s : ℕ) (nought : A) (e : enc blank ≡ replicate s nought) where
+  blank-rows : (k : ℕ) → rows enc (replicate k blank) ≡ replicate (k * s) nought
+  unfolding rows
+  blank-rows zero = rw zero-mul
+  blank-rows (suc k) =
+      rw (e, blank-rows k) (replicate-append-replicate s (k * s) nought) ∙ ap (λ (m : ℕ). replicate m nought) (add-comm s (k * s) ∙ sym (suc-mul k s))
+
+  blank-filled : (ts : List Track) (k : ℕ) (l : List A) → laid enc s (ts ++ replicate k blank) l ≡ filledUp enc s nought ts (length ts + k) l
+  unfolding laid filledUp
+  blank-filled ts k l =
+      let all : (length ts + k) * s ≡ length ts * s + k * s = add-mul (length ts) k s in
+      let many : (length ts + k) * s - length ts * s ≡ k * s = omega arith in
+      rw (many, rows-append enc ts (replicate k blank), blank-rows k, length-append ts (replicate k blank), length-replicate k blank)
+      (append-assoc (rows enc ts) (replicate (k * s) nought) (drop ((length ts + k) * s) l))
+
+pub record Clearing (f₀ : List Float) (c₀ : List ℕ) (ts : List Track) (places : ℕ) (f : List Float) (c : List ℕ) (i : ℕ) : Type 0 where
+  pub room : Room (length f₀) (length c₀) places
+  pub upto : i ≤ places
+  pub blanks : ℕ
+  pub count : i ≡ length ts + blanks
+  pub laying : Laying f₀ c₀ f c (ts ++ replicate blanks blank)
+  pub same-f : length f ≡ length f₀
+  pub same-c : length c ≡ length c₀
+
+module _ (f₀ : List Float) (c₀ : List ℕ) (held : ℕ) where
+  pub clear-start : {places i : ℕ} → places ≡ capacity (length f₀) (length c₀) → i ≡ min held places → Clearing f₀ c₀ (tracks f₀ c₀ held) places f₀ c₀ i
+  clear-start {places} {i} e n =
+      let many = tracks-placed f₀ c₀ held in
+      record {
+        room = rw e (capacity-room (length f₀) (length c₀));
+        upto = omega arith;
+        blanks = 0;
+        count = omega (arith, many, e, n);
+        laying = rw (append-nil (tracks f₀ c₀ held)) (lay-here f₀ c₀ held);
+        same-f = refl;
+        same-c = refl;
+      }
+
+module _ {f₀ : List Float} {c₀ : List ℕ} {ts : List Track} {places : ℕ} {f : List Float} {c : List ℕ} {i : ℕ} (w : Clearing f₀ c₀ ts places f c i) where
+  -- one more is stored
+  pub clear-on : {f′ : List Float} {c′ : List ℕ} {t : Track} → i < places → t ≡ blank → f′ ≡ splice f (i * 24) (floatsOf t) → c′ ≡ splice c (i * 4) (countersOf t) → Clearing f₀ c₀ ts places f′ c′ (i + 1)
+  clear-on {f′} {c′} {t} h e ef ec =
+      let k : ℕ = w .blanks in
+      let many : length (ts ++ replicate k blank) ≡ i = length-append ts (replicate k blank) ∙ ap (λ (m : ℕ). length ts + m) (length-replicate k blank) ∙ sym (w .count) in
+      let l : Laying f₀ c₀ f′ c′ ((ts ++ replicate k blank) ++ (blank ∷ [])) = rw (ef, ec, e) (rw many at (lay-on (w .laying) blank)) in
+      let next : (ts ++ replicate k blank) ++ (blank ∷ []) ≡ ts ++ replicate (k + 1) blank =
+      append-assoc ts (replicate k blank) (blank ∷ []) ∙ ap (λ (xs : List Track). ts ++ xs) (replicate-append-replicate k 1 blank) in
+      let laying : Laying f₀ c₀ f′ c′ (ts ++ replicate (k + 1) blank) = rw next at l in
+      let count = w .count in
+      let in-f = w .room .in-floats in
+      let in-c = w .room .in-counters in
+      let few = w .room .few in
+      let now-many : length (ts ++ replicate (k + 1) blank) ≡ i + 1 = length-append ts (replicate (k + 1) blank) ∙ ap (λ (m : ℕ). length ts + m) (length-replicate (k + 1) blank) ∙ (omega arith) in
+      let lens = lay-lengths laying (rw now-many (record { few = omega arith; in-floats = omega arith; in-counters = omega arith })) in
+      record { room = w .room; upto = omega arith; blanks = k + 1; count = omega arith; laying = laying; same-f = lens .0; same-c = lens .1 }
+
+  pub clear-end : places ≤ i → places ≡ capacity (length f₀) (length c₀) → Emptied f₀ c₀ ts f c
+  clear-end h e =
+      let k : ℕ = w .blanks in
+      let all : length ts + k ≡ capacity (length f₀) (length c₀) = omega (arith, w .count, w .upto, h, e) in
+      record {
+        floats = w .laying .floats ∙ blank-filled floatsOf 24 single.zero refl ts k f₀ ∙ ap (λ (n : ℕ). filledUp floatsOf 24 single.zero ts n f₀) all;
+        counters = w .laying .counters ∙ blank-filled countersOf 4 0 refl ts k c₀ ∙ ap (λ (n : ℕ). filledUp countersOf 4 0 ts n c₀) all;
+      }

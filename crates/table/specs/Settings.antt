@@ -56,8 +56,9 @@ withLambdas s lambdaIou lambdaMhd lambdaShape = record {
   «use_varying_threshold» = s .«use_varying_threshold»;
 }
 
-abbrev pub withBoost : Settings → Bool → Bool → Settings
-withBoost s useDloBoost useDuoBoost = record {
+-- s with these switches: dlo boost, duo boost, rich similarity, shape similarity correction, soft boost, varying threshold
+abbrev switched : Settings → Bool → Bool → Bool → Bool → Bool → Bool → Settings
+switched s dlo duo rich correction soft varying = record {
   «det_thresh» = s .«det_thresh»;
   «iou_threshold» = s .«iou_threshold»;
   «lambda_iou» = s .«lambda_iou»;
@@ -66,38 +67,22 @@ withBoost s useDloBoost useDuoBoost = record {
   «dlo_boost_coef» = s .«dlo_boost_coef»;
   «max_age» = s .«max_age»;
   «min_hits» = s .«min_hits»;
-  «use_dlo_boost» = useDloBoost;
-  «use_duo_boost» = useDuoBoost;
-  «use_rich_similarity» = s .«use_rich_similarity»;
-  «use_shape_similarity_correction» = s .«use_shape_similarity_correction»;
-  «use_soft_boost» = s .«use_soft_boost»;
-  «use_varying_threshold» = s .«use_varying_threshold»;
-}
-
--- the settings of BoostTrack+ and BoostTrack++: rich similarity, shape similarity correction, soft boost, varying threshold
-abbrev withPlus : Settings → Bool → Bool → Bool → Bool → Settings
-withPlus s rich correction soft varying = record {
-  «det_thresh» = s .«det_thresh»;
-  «iou_threshold» = s .«iou_threshold»;
-  «lambda_iou» = s .«lambda_iou»;
-  «lambda_mhd» = s .«lambda_mhd»;
-  «lambda_shape» = s .«lambda_shape»;
-  «dlo_boost_coef» = s .«dlo_boost_coef»;
-  «max_age» = s .«max_age»;
-  «min_hits» = s .«min_hits»;
-  «use_dlo_boost» = s .«use_dlo_boost»;
-  «use_duo_boost» = s .«use_duo_boost»;
+  «use_dlo_boost» = dlo;
+  «use_duo_boost» = duo;
   «use_rich_similarity» = rich;
   «use_shape_similarity_correction» = correction;
   «use_soft_boost» = soft;
   «use_varying_threshold» = varying;
 }
 
+abbrev pub withBoost : Settings → Bool → Bool → Settings
+withBoost s useDloBoost useDuoBoost = switched s useDloBoost useDuoBoost (s .«use_rich_similarity») (s .«use_shape_similarity_correction») (s .«use_soft_boost») (s .«use_varying_threshold»)
+
 abbrev pub withBoostPlus : Settings → Settings
-withBoostPlus s = withPlus s true (s .«use_shape_similarity_correction») (s .«use_soft_boost») (s .«use_varying_threshold»)
+withBoostPlus s = switched s (s .«use_dlo_boost») (s .«use_duo_boost») true (s .«use_shape_similarity_correction») (s .«use_soft_boost») (s .«use_varying_threshold»)
 
 abbrev pub withBoostPlusPlus : Settings → Settings
-withBoostPlusPlus s = withPlus s true (s .«use_shape_similarity_correction») true true
+withBoostPlusPlus s = switched s (s .«use_dlo_boost») (s .«use_duo_boost») true (s .«use_shape_similarity_correction») true true
 
 abbrev pub withShapeSimilarityV1 : Settings → Settings
-withShapeSimilarityV1 s = withPlus s (s .«use_rich_similarity») false (s .«use_soft_boost») (s .«use_varying_threshold»)
+withShapeSimilarityV1 s = switched s (s .«use_dlo_boost») (s .«use_duo_boost») (s .«use_rich_similarity») false (s .«use_soft_boost») (s .«use_varying_threshold»)

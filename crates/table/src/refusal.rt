@@ -1,4 +1,7 @@
 // Why a frame is turned down: document 01's 11 to 19, in this order.
+ghost use mathlib.Core.Path.{_≡_};
+ghost use Rattle.table.specs.Frame as Frame;
+
 pub enum Refusal {
     // 11
     TableNotSound,
@@ -23,4 +26,60 @@ pub enum Refusal {
 pub enum Verdict {
     Accepted,
     Refused(Refusal),
+}
+
+impl Refusal {
+    pub fn number(self) -> u32
+        ensures { λ r. ⌜ r ≡ Frame.number self ⌝ }
+    {
+        match self {
+            Refusal::TableNotSound => 11,
+            Refusal::TrackNotWorkable => 12,
+            Refusal::SettingNotFinite => 13,
+            Refusal::TooManyBoxes => 14,
+            Refusal::TableFull => 15,
+            Refusal::BadBox(_) => 16,
+            Refusal::TooManyFrames => 17,
+            Refusal::OutputShort => 18,
+            Refusal::WorkShort => 19,
+        }
+    }
+
+    // Of a bad box; 0 for every other refusal.
+    pub fn index(self) -> u64
+        ensures { λ r. ⌜ r ≡ Frame.index self ⌝ }
+    {
+        match self {
+            Refusal::TableNotSound => 0,
+            Refusal::TrackNotWorkable => 0,
+            Refusal::SettingNotFinite => 0,
+            Refusal::TooManyBoxes => 0,
+            Refusal::TableFull => 0,
+            Refusal::BadBox(i) => i as u64,
+            Refusal::TooManyFrames => 0,
+            Refusal::OutputShort => 0,
+            Refusal::WorkShort => 0,
+        }
+    }
+}
+
+// Both are 0 where a frame is accepted.
+impl Verdict {
+    pub fn number(self) -> u32
+        ensures { λ r. ⌜ r ≡ Frame.answer self .0 ⌝ }
+    {
+        match self {
+            Verdict::Accepted => 0,
+            Verdict::Refused(why) => why.number(),
+        }
+    }
+
+    pub fn index(self) -> u64
+        ensures { λ r. ⌜ r ≡ Frame.answer self .1 ⌝ }
+    {
+        match self {
+            Verdict::Accepted => 0,
+            Verdict::Refused(why) => why.index(),
+        }
+    }
 }

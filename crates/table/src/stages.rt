@@ -8,10 +8,8 @@ use strack::strack::KalmanBoxTracker;
 use strack::strack::TrackCorrection;
 ghost use mathlib.Core.Path.{_≡_};
 ghost use mathlib.Core.List.{map};
-ghost use Prim.Native.Nat.{_+_, _-_, _*_, _≤_, min};
-ghost use lib.ListN.{length, getD, set, replicate};
-ghost use Rattle.laws.specs.Splice.{splice};
-ghost use Rattle.floats.specs.Single.{zero};
+ghost use Prim.Native.Nat.{_+_, _*_, _≤_, min};
+ghost use lib.ListN.{length, getD, set};
 ghost use Rattle.strack.specs.Strack.{predict as predictTrack, update as updateTrack};
 ghost use Rattle.table.specs.Table as Table;
 ghost use Rattle.table.specs.Table.{tracks, blankPair, pushed, Laying, Retired, Emptied};
@@ -161,48 +159,14 @@ pub fn retire(floats: &mut [f32], counters: &mut [u64], held: usize, oldest: u64
 
 // ---- places beyond the held tracks
 
-fn zero_floats(f: &mut [f32])
-    ensures { λ _. ⌜ now (f .exit) ≡ replicate (length (now (f .entry))) zero ⌝ }
-{
-    let n = f.len();
-    let mut k = 0;
-    while k < n {
-        f[k] = 0.0;
-        k += 1;
-    }
-}
-
-fn zero_counters(c: &mut [u64])
-    ensures { λ _. ⌜ now (c .exit) ≡ replicate (length (now (c .entry))) 0 ⌝ }
-{
-    let n = c.len();
-    let mut k = 0;
-    while k < n {
-        c[k] = 0;
-        k += 1;
-    }
-}
-
-fn zero_float_part(f: &mut [f32], a: usize, b: usize)
-    requires { ⌜ (a ≤ b) × (b ≤ length (now f)) ⌝ }
-    ensures { λ _. ⌜ now (f .exit) ≡ splice (now (f .entry)) a (replicate (b - a) zero) ⌝ }
-{
-    zero_floats(&mut f[a..b]);
-}
-
-fn zero_counter_part(c: &mut [u64], a: usize, b: usize)
-    requires { ⌜ (a ≤ b) × (b ≤ length (now c)) ⌝ }
-    ensures { λ _. ⌜ now (c .exit) ≡ splice (now (c .entry)) a (replicate (b - a) 0) ⌝ }
-{
-    zero_counters(&mut c[a..b]);
-}
-
 // Zeros every place beyond the held tracks; cells past the capacity are not written.
 pub fn clear_beyond(floats: &mut [f32], counters: &mut [u64], held: usize)
     ensures { λ _. ⌜ Emptied (now (floats .entry)) (now (counters .entry)) (tracks (now (floats .entry)) (now (counters .entry)) held) (now (floats .exit)) (now (counters .exit)) ⌝ }
 {
     let places = capacity(floats.len(), counters.len());
-    let n = smaller(held, places);
-    zero_float_part(floats, n * 24, places * 24);
-    zero_counter_part(counters, n * 4, places * 4);
+    let mut i = smaller(held, places);
+    while i < places {
+        put_track(floats, counters, i, blank());
+        i += 1;
+    }
 }

@@ -1,2 +1,2 @@
--- What the proofs of the loops cite.
-pub mod Lending
+-- What the proof of the loop cites.
+pub mod Sizes

@@ -1,12 +1,9 @@
 -- `lapjv` meets its contract: the definition's assignment where the verdict is that the call fits, and no store where it is not. Assumes nothing.
 use mathlib.Core.Path.{sym, _∙_}
 use borrow.Author.Needs.{needs}
-use Rattle.lapjv.proofs.AnswerLaws.{ready, refuse, accept}
+use Rattle.lapjv.proofs.AnswerLaws.{refuse, accept}
 use Rattle.lapjv.proofs.lapjv.Statement.{statement}
 use Rattle.lapjv.proofs.lapjv.Tie as tie
-
-assign-requires : tie.Need-assign-requires
-assign-requires c κs = let t = c .before .before in ready (sym (t .before .before .verdict-of .ensures) ∙ t .enum-told .given .1)
 
 returns : tie.Need-returns
 returns c =
@@ -24,7 +21,7 @@ lapjv-spec =
     (λ c κs. search needs)
     (λ c. search needs)
     (λ c. search needs)
-    assign-requires
+    (λ c κs. search needs)
     (λ c. c .before .before .before .before .assign .kept .1 .1 .0)
     (λ c. c .before .before .before .before .assign .kept .1 .1 .1 .0)
     returns

@@ -1,8 +1,7 @@
--- `lapjv_vectors::refuse` meets its contract: the lengths lent are within the arrays. Assumes nothing.
-use mathlib.Core.Path.{sym}
+-- `lapjv_vectors::refuse` meets its contract: each length lent is within its array. Assumes nothing.
 use native.Mathlib.Omega.{arith}
-use lib.Seq.{length-take-le}
 use borrow.Author.Needs.{needs}
+use Rattle.vectors.specs.Lent.{lent}
 use Rattle.lapjv_vectors.proofs.refuse.Statement.{statement}
 use Rattle.lapjv_vectors.proofs.refuse.Tie as tie
 
@@ -11,11 +10,7 @@ refuse-spec =
     tie.close
     (tie.spec
     (λ c κs. search needs)
-    (λ c. search needs)
-    (λ c. sym (length-take-le _ _ (omega arith)))
-    (λ c. search needs)
-    (λ c. sym (length-take-le _ _ (omega arith)))
-    (λ c. search needs)
-    (λ c. sym (length-take-le _ _ (omega arith)))
-    (λ c κs. search needs)
-    (λ c. search needs))
+    (λ c. search needs) (λ c. lent 16 _ _ (omega arith))
+    (λ c. search needs) (λ c. lent 4 _ _ (omega arith))
+    (λ c. search needs) (λ c. lent 4 _ _ (omega arith))
+    (λ c κs. search needs) (λ c. search needs))

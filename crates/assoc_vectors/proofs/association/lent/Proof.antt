@@ -1,8 +1,7 @@
 -- `assoc_vectors::association::lent` meets its contract: each length lent is within its array. Assumes nothing.
-use mathlib.Core.Path.{sym}
 use native.Mathlib.Omega.{arith}
-use lib.Seq.{length-take-le}
 use borrow.Author.Needs.{needs}
+use Rattle.vectors.specs.Lent.{lent}
 use Rattle.assoc_vectors.proofs.association.lent.Statement.{statement}
 use Rattle.assoc_vectors.proofs.association.lent.Tie as tie
 
@@ -10,17 +9,10 @@ pub lent-spec : {M : Type 1} → statement M
 lent-spec =
     tie.close
     (tie.spec
-    (λ c. search needs)
-    (λ c. sym (length-take-le _ _ (omega arith)))
-    (λ c. search needs)
-    (λ c. sym (length-take-le _ _ (omega arith)))
-    (λ c. search needs)
-    (λ c. sym (length-take-le _ _ (omega arith)))
-    (λ c. search needs)
-    (λ c. sym (length-take-le _ _ (omega arith)))
-    (λ c. search needs)
-    (λ c. sym (length-take-le _ _ (omega arith)))
-    (λ c. search needs)
-    (λ c. sym (length-take-le _ _ (omega arith)))
-    (λ c κs. search needs)
-    (λ c. search needs))
+    (λ c. search needs) (λ c. lent 257 _ _ (omega arith))
+    (λ c. search needs) (λ c. lent 257 _ _ (omega arith))
+    (λ c. search needs) (λ c. lent 257 _ _ (omega arith))
+    (λ c. search needs) (λ c. lent 257 _ _ (omega arith))
+    (λ c. search needs) (λ c. lent 65538 _ _ (omega arith))
+    (λ c. search needs) (λ c. lent 262146 _ _ (omega arith))
+    (λ c κs. search needs) (λ c. search needs))

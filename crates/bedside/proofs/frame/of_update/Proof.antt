@@ -14,7 +14,7 @@ told number index a = record { refusal = number; index = index; state = a .state
 returns : tie.Need-returns
 returns c =
     let a = c .before .before .before .args .a in
-    ap (λ (k : ℕ). told k (c .verdict-index .result) a) (c .before .verdict-number .ensures) ∙ ap (λ (i : ℕ). told (answer (a .verdict) .0) i a) (c .verdict-index .ensures)
+    ap (λ (k : ℕ). told k (c .index .result) a) (c .before .number .ensures) ∙ ap (λ (i : ℕ). told (answer (a .verdict) .0) i a) (c .index .ensures)
 
 pub of-update-spec : {M : Type 1} → statement M
 of-update-spec = tie.close (tie.spec (λ c κs. search needs) (λ c κs. search needs) returns)

@@ -1,7 +1,7 @@
 -- `bedside::pairs::of_assignment` meets its contract. Assumes nothing.
 use mathlib.Core.Path.{sym, ap, _∙_}
 use Prim.Native.Nat.{ℕ}
-use Rattle.assoc.specs.Answers.{assignmentNumber, assignmentValues}
+use Rattle.matching.specs.Answers.{assignmentNumber, assignmentValues}
 use Rattle.bedside.specs.Pairs.{assignmentInC}
 use Rattle.bedside.specs.declared.pairs.Assignment.{Assignment}
 use borrow.Author.Needs.{needs}

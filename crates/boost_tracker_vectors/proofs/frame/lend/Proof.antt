@@ -1,8 +1,7 @@
 -- `boost_tracker_vectors::frame::lend` is safe: each length lent is within its array. Assumes nothing.
-use mathlib.Core.Path.{sym}
-use lib.Seq.{length-take-le}
 use native.Mathlib.Omega.{arith}
 use borrow.Author.Needs.{needs}
+use Rattle.vectors.specs.Lent.{lent}
 use Rattle.boost_tracker_vectors.proofs.frame.lend.Statement.{statement}
 use Rattle.boost_tracker_vectors.proofs.frame.lend.Tie as tie
 
@@ -10,13 +9,7 @@ pub lend-spec : {M : Type 1} → statement M
 lend-spec =
     tie.close
     (tie.spec
-    (λ c. search needs)
-    (λ c. sym (length-take-le _ _ (omega arith)))
-    (λ c. search needs)
-    (λ c. sym (length-take-le _ _ (omega arith)))
-    (λ c. search needs)
-    (λ c. sym (length-take-le _ _ (omega arith)))
-    (λ c κs. search needs)
-    (λ c. search needs)
-    (λ c. search needs)
-    (λ c. search needs))
+    (λ c. search needs) (λ c. lent 16416 _ _ (omega arith))
+    (λ c. search needs) (λ c. lent 65568 _ _ (omega arith))
+    (λ c. search needs) (λ c. lent 262176 _ _ (omega arith))
+    (λ c κs. search needs) (λ c. search needs) (λ c. search needs) (λ c. search needs))

@@ -4,7 +4,7 @@ use denote.Ref.{now}
 use lib.ListN.{length}
 use mathlib.Core.Path.{_∙_, ap}
 use Rattle.boosts.proofs.DloLaws.{score-is}
-use Rattle.boosts.proofs.RowLaws.{part-four, part-is}
+use Rattle.duo.specs.Rows.{part-four, part-is}
 use Rattle.boosts.specs.Steps.{boostedScore}
 use Rattle.laws.specs.Tab.{length-tab}
 use Rattle.boosts.proofs.dlo.boosted_in.Statement.{statement}

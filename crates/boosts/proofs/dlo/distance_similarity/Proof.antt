@@ -2,7 +2,7 @@
 use borrow.Author.Needs.{needs}
 use denote.Ref.{now}
 use mathlib.Core.Path.{_∙_}
-use Rattle.boosts.proofs.RowLaws.{matrix-filled}
+use Rattle.duo.specs.Rows.{matrix-filled}
 use Rattle.boosts.proofs.Verdicts.{accepted-cells}
 use Rattle.boosts.specs.Steps.{mhdLeft}
 use Rattle.floats.specs.Single.{one}

@@ -2,7 +2,7 @@
 use borrow.Author.Needs.{needs}
 use denote.Ref.{now}
 use mathlib.Core.Path.{_∙_, refl}
-use Rattle.boosts.proofs.RowLaws.{one-accepted, row-filled}
+use Rattle.duo.specs.Rows.{one-accepted, row-filled}
 use Rattle.similarity.specs.Shape.{shapeSimilarityV1, shapeSimilarityV2}
 use Rattle.boosts.proofs.dlo.shape_row.Statement.{statement}
 use Rattle.boosts.proofs.dlo.shape_row.Tie as tie

@@ -3,7 +3,8 @@ use borrow.Author.Needs.{needs}
 use denote.Ref.{now}
 use mathlib.Core.Path.{_∙_, refl}
 use Rattle.boosts.proofs.DloLaws.{off, on, plain-row, rich-row-is}
-use Rattle.boosts.proofs.RowLaws.{one-accepted, one-confident, row-filled}
+use Rattle.boosts.proofs.RowLaws.{one-confident}
+use Rattle.duo.specs.Rows.{one-accepted, row-filled}
 use Rattle.similarity.specs.Overlap.{iouBatch, softBiouBatch}
 use Rattle.boosts.proofs.dlo.similarity_row.Statement.{statement}
 use Rattle.boosts.proofs.dlo.similarity_row.Tie as tie

@@ -7,7 +7,7 @@ use native.Mathlib.Omega.{arith}
 use lib.ListN.{length}
 use Rattle.laws.specs.Tab.{Filling, fill-start, fill-on, fill-whole}
 use Rattle.similarity.specs.Overlap.{boxAt}
-use Rattle.similarity.specs.Shape.{exponentV1}
+use Rattle.boxes.specs.Shape.{exponentV1}
 use Rattle.similarity.proofs.batch.exponent_v1_row.Statement.{statement}
 use Rattle.similarity.proofs.batch.exponent_v1_row.Tie as tie
 

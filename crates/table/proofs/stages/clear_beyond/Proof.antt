@@ -1,17 +1,40 @@
--- `stages::clear_beyond` meets its contract. Assumes nothing.
-use mathlib.Core.Path.{ap, _∙_}
-use Prim.Native.Nat.{min}
-use denote.Ref.{now}
-use borrow.Author.Needs.{needs}
-use Rattle.table.proofs.Walks.{emptied}
+-- `stages::clear_beyond` meets its contract. The loop's invariant: the places from the one behind the held tracks up to i are blank, and the rest is as it was. The measure is what is left of the places. Assumes nothing.
+use Prim.Native.Nat.{_-_}
+use native.Mathlib.Omega.{arith}
+use Rattle.table.specs.Table.{tracks}
+use Rattle.table.proofs.Walks.{Clearing, clear-start, clear-on, clear-end}
 use Rattle.table.proofs.stages.clear_beyond.Statement.{statement}
 use Rattle.table.proofs.stages.clear_beyond.Tie as tie
 
-returns : tie.Need-returns
-returns c =
-    let a = c .before .before .before .before .before .before .before .before .before .before .before .before .args in
-    let places = c .before .before .before .before .before .before .before .before .before .capacity .ensures in
-    emptied (now (a .floats)) (now (a .counters)) (a .held) (c .before .before .before .before .before .before .before .before .smaller .ensures ∙ ap (min (a .held)) places) places (c .before .before .before .before .before .before .zero-float-part .ensures) (c .before .before .zero-counter-part .ensures)
+abbrev Inv-loop : tie.InvT-loop
+Inv-loop floats₀ counters₀ held places i₀ floats counters i = Clearing floats₀ counters₀ (tracks floats₀ counters₀ held) places floats counters i
+
+abbrev μ-loop : tie.MeasureT-loop
+μ-loop floats₀ counters₀ held places i₀ floats counters i = places - i
+
+put-track-requires : tie.Need-put-track-requires Inv-loop μ-loop
+put-track-requires c κs =
+    let w = c .before .before .before .before .loop .inv in
+    omega (arith, c .before .before .before .loop-test .taken, w .room .in-floats, w .room .in-counters, w .same-f, w .same-c)
+
+loop-again : tie.Need-loop-again Inv-loop μ-loop
+loop-again c =
+    let test = c .before .before .before .before .before .before .before .before in
+    let put = c .before .before .before .before in
+    clear-on (test .before .loop .inv) (test .loop-test .taken) (put .before .blank .ensures) (put .put-track .ensures .0) (put .put-track .ensures .1)
 
 pub clear-beyond-spec : {M : Type 1} → statement M
-clear-beyond-spec = tie.close (tie.spec (λ c κs. search needs) (λ c κs. search needs) (λ c. search needs) (λ c. search needs) (λ c κs. search needs) (λ c. search needs) (λ c. search needs) (λ c κs. search needs) (λ c. search needs) (λ c. search needs) returns)
+clear-beyond-spec =
+    tie.close
+    (tie.spec Inv-loop μ-loop
+    (λ c κs. tt)
+    (λ c κs. tt)
+    (λ c. clear-start _ _ _ (c .before .capacity .ensures) (c .smaller .ensures))
+    (λ c κs. tt)
+    put-track-requires
+    (λ c. omega (arith, c .before .before .before .before .before .before .before .before .loop-test .taken, c .before .before .before .before .before .before .before .before .before .loop .inv .room .few))
+    (λ c. omega (arith, c .before .before .before .before .before .before .before .before .loop-test .taken))
+    loop-again
+    (λ c. c .before .loop .inv .same-f)
+    (λ c. c .before .loop .inv .same-c)
+    (λ c. clear-end (c .before .loop .inv) (c .loop-test .left) (c .before .before .before .capacity .ensures)))

@@ -1,0 +1,47 @@
+-- Document 01's first example, computed by the definition: the box 10, 20, 32, 64 with score 0.75, alone in frame 1 of an empty table. A box below the threshold starts no track.
+use mathlib.Core.Path.{_≡_, refl}
+use mathlib.Core.List.{List, [], _∷_, map}
+use Prim.Native.Nat.{ℕ}
+use lib.Ieee.{Float, binary32, ofBits, toBits, add, sub, mul, div, le}
+use Rattle.floats.specs.Known.{f32}
+use Rattle.floats.specs.Power.{powi}
+use Rattle.laws.specs.Tab.{tab}
+use Rattle.laws.specs.Laid.{rows}
+use Rattle.laws.specs.Sieve.{sieve}
+use Rattle.strack.specs.Rect.{widthOf}
+use Rattle.strack.specs.Strack.{new as newTrack, getState, confidence}
+use Rattle.assoc.specs.Association.{associate}
+use Rattle.table.specs.declared.settings.Settings.{Settings}
+use Rattle.table.specs.declared.sound.State.{State}
+use Rattle.table.specs.Settings.{new}
+use Rattle.table.specs.Table.{Track}
+use Rattle.table.specs.Record.{recordOf}
+use Rattle.boost_tracker_definition.specs.Update.{Stages, bboxes, scores, trks, confs, afterDlo, afterDuo, remainInds, detBboxes, detScores, mhDist, result, matched, started, steps, update, stateAfter}
+
+-- trackbox's settings
+abbrev settings : Settings
+settings = new (f32 0x3f19_999a) (f32 0x3e99_999a) 30 3
+
+abbrev empty : State
+empty = record { count = 0; last = 0; frames = 0 }
+
+abbrev box : ℕ → List Float
+box score = f32 0x4120_0000 ∷ f32 0x41a0_0000 ∷ f32 0x4200_0000 ∷ f32 0x4280_0000 ∷ f32 score ∷ []
+
+-- a frame's new count, last id and frame count
+abbrev counts : Stages → List ℕ
+counts g = stateAfter g .count ∷ stateAfter g .last ∷ stateAfter g .frames ∷ []
+
+-- a track record, as trackbox prints it
+abbrev shown : Track → List ℕ
+shown t =
+    recordOf 1 t .frame ∷ recordOf 1 t .id ∷ toBits binary32 (recordOf 1 t .left) ∷ toBits binary32 (recordOf 1 t .top) ∷ toBits binary32 (recordOf 1 t .width) ∷ toBits binary32 (recordOf 1 t .height)
+    ∷ toBits binary32 (recordOf 1 t .confidence) ∷ []
+
+abbrev first : ℕ → Stages
+first score = update settings empty (box score) []
+
+pub known : (map shown (first 0x3f40_0000 .output) ≡ (1 ∷ 1 ∷ 0x4120_0000 ∷ 0x41a0_0000 ∷ 0x4200_0000 ∷ 0x4280_0000 ∷ 0x3ef4_e351 ∷ []) ∷ []) × (counts (first 0x3f40_0000) ≡ 1 ∷ 1 ∷ 1 ∷ [])
+    × (counts (first 0x3f00_0000) ≡ 0 ∷ 0 ∷ 1 ∷ [])
+unfolding update steps bboxes scores trks confs afterDlo afterDuo remainInds detBboxes detScores mhDist result associate matched started tab rows sieve recordOf newTrack getState widthOf confidence powi ofBits toBits add sub mul div le
+known = (refl, refl, refl)

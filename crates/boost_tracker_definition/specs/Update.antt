@@ -1,0 +1,218 @@
+-- boost_tracker.rs, `update_impl`, lines 249-390 without ECC: a frame, step by step, under the Rust's names. `Stages` has what each step leaves.
+-- An object is five floats of `objects`: left, top, width, height, score. dets[i] of the Rust is box i of a list that has four corners for each, and element i of a list of scores.
+use mathlib.Core.Bool.{Bool, cond, _&&_}
+use mathlib.Core.List.{List, [], _∷_, _++_, map, foldl}
+use Prim.Native.Nat.{ℕ, _+_, _*_}
+use lib.Dec.{ltb}
+use lib.ListN.{length, getD}
+use lib.Ieee.{Float, nan, le}
+use Rattle.laws.specs.Tab.{tab, indices}
+use Rattle.laws.specs.Laid.{rows}
+use Rattle.laws.specs.Sieve.{sieve}
+use Rattle.laws.specs.Grid.{grid}
+use Rattle.strack.specs.declared.rect.Xyxy.{Xyxy}
+use Rattle.strack.specs.Rect.{getXyxy}
+use Rattle.strack.specs.Strack.{new, predict, getState, getConfidence}
+use Rattle.similarity.specs.declared.cost.AssociateParams.{AssociateParams}
+use Rattle.boosts.specs.declared.dlo.DloSettings.{DloSettings}
+use Rattle.boosts.specs.MhDist.{det, getMhDistMatrix}
+use Rattle.boosts.specs.Dlo.{dloConfidenceBoost}
+use Rattle.duo.specs.Duo.{duoConfidenceBoost}
+use Rattle.matching.specs.Matching.{Pair}
+use Rattle.matching.specs.Assignment.{Assignment}
+use Rattle.assoc.specs.Association.{associate}
+use Rattle.table.specs.declared.settings.Settings.{Settings}
+use Rattle.table.specs.declared.sound.State.{State}
+use Rattle.table.specs.Table.{Track, blank, corrected, retained}
+use Rattle.table.specs.Record.{nineTenths}
+use Rattle.table.specs.Emission.{emitted}
+use Rattle.table.specs.Frame.{boxesIn}
+
+-- ---- the objects, lines 267-274
+
+-- [x1, y1, x2, y2]
+abbrev pub cornersOf : Xyxy → List Float
+cornersOf b = b .x1 ∷ b .y1 ∷ b .x2 ∷ b .y2 ∷ []
+
+-- !xs.is_empty()
+abbrev pub some : {A : Type 0} → List A → Bool
+some xs = ltb 0 (length xs)
+
+-- trackers[j]
+abbrev pub trackerAt : List Track → ℕ → Track
+trackerAt trackers j = getD trackers j blank
+
+-- o.get_rect().get_xyxy() and o.get_prob() of object i
+abbrev pub xyxyOf : List Float → ℕ → Xyxy
+xyxyOf objects i = getXyxy (record { left = getD objects (i * 5) nan; top = getD objects (i * 5 + 1) nan; width = getD objects (i * 5 + 2) nan; height = getD objects (i * 5 + 3) nan })
+
+abbrev pub probOf : List Float → ℕ → Float
+probOf objects i = getD objects (i * 5 + 4) nan
+
+-- the corners and the scores of dets
+unfoldable pub bboxes : List Float → List Float
+bboxes objects = rows cornersOf (tab (xyxyOf objects) (boxesIn objects))
+
+unfoldable pub scores : List Float → List Float
+scores objects = tab (probOf objects) (boxesIn objects)
+
+-- ---- step 1, lines 276-285: of the predicted trackers
+
+unfoldable pub trks : List Track → List Float
+trks trackers = rows cornersOf (map getState trackers)
+
+unfoldable pub confs : List Track → List Float
+confs trackers = map (λ t. getConfidence t nineTenths) trackers
+
+-- ---- step 2, lines 287-294: the boosts
+
+-- what dlo_confidence_boost reads of self
+abbrev pub dloSettings : Settings → DloSettings
+dloSettings self = record {
+  rich = self .«use_rich_similarity»;
+  corrected = self .«use_shape_similarity_correction»;
+  soft = self .«use_soft_boost»;
+  varying = self .«use_varying_threshold»;
+  coef = self .«dlo_boost_coef»;
+  thresh = self .«det_thresh»;
+}
+
+-- self.dlo_confidence_boost(&mut dets, &trks, &confs) and self.duo_confidence_boost(&mut dets)
+unfoldable pub dlo : Settings → List Float → List Float → List Float → List Track → List Float → List Float
+dlo self bboxes trks confs trackers scores =
+    dloConfidenceBoost (dloSettings self) bboxes trks confs (getMhDistMatrix bboxes (trackerAt trackers)) (λ j. trackerAt trackers j .since) (length scores) (length trackers) scores
+
+unfoldable pub duo : Settings → ℕ → List Float → List Track → List Float → List Float
+duo self frameCount bboxes trackers scores =
+    duoConfidenceBoost frameCount (self .«det_thresh») bboxes (getMhDistMatrix bboxes (trackerAt trackers)) (length scores) (length trackers) scores
+
+unfoldable pub afterDlo : Settings → List Float → List Float → List Float → List Track → List Float → List Float
+afterDlo self bboxes trks confs trackers scores = cond (self .«use_dlo_boost» && some trackers) (dlo self bboxes trks confs trackers scores) scores
+
+unfoldable pub afterDuo : Settings → ℕ → List Float → List Track → List Float → List Float
+afterDuo self frameCount bboxes trackers scores = cond (self .«use_duo_boost» && some trackers) (duo self frameCount bboxes trackers scores) scores
+
+-- ---- step 3, lines 296-310: the boxes that are retained
+
+abbrev pub remains : Float → List Float → ℕ → Bool
+remains detThresh scores i = le detThresh (getD scores i nan)
+
+unfoldable pub remainInds : Float → List Float → List ℕ
+remainInds detThresh scores = sieve (remains detThresh scores) (indices (length scores))
+
+unfoldable pub detBboxes : List Float → List ℕ → List Float
+detBboxes objects remainInds = rows (λ i. cornersOf (xyxyOf objects i)) remainInds
+
+unfoldable pub detScores : List Float → List ℕ → List Float
+detScores scores remainInds = map (λ i. getD scores i nan) remainInds
+
+-- ---- steps 4 and 5, lines 312-342: the association
+
+-- get_mh_dist_matrix, for so many boxes
+unfoldable pub mhDist : ℕ → List Float → List Track → List Float
+mhDist dets detBboxes trackers = grid (getMhDistMatrix detBboxes (trackerAt trackers)) dets (length trackers) []
+
+-- the flags say which of the Options are there: mh_dist if it has a row and a column, the confidences if neither list is empty
+abbrev pub params : Settings → ℕ → ℕ → AssociateParams
+params self numDets numTrks = record {
+  «iou_threshold» = self .«iou_threshold»;
+  «lambda_iou» = self .«lambda_iou»;
+  «lambda_mhd» = self .«lambda_mhd»;
+  «lambda_shape» = self .«lambda_shape»;
+  «use_shape_similarity_correction» = self .«use_shape_similarity_correction»;
+  «has_mahalanobis» = ltb 0 numDets && ltb 0 numTrks;
+  «has_confidence» = ltb 0 numTrks && ltb 0 numDets;
+}
+
+unfoldable pub result : Settings → List Float → List Float → List Track → List Float → List Float → Assignment
+result self detBboxes detScores trackers trks confs =
+    associate (params self (length detScores) (length trackers)) (length detScores) (length trackers) detBboxes trks (mhDist (length detScores) detBboxes trackers) confs detScores
+
+-- ---- step 6, lines 344-348: self.trackers[trk_idx].update(&det_bboxes[det_idx], score), which does not use the score
+
+unfoldable pub matched : List Float → List Pair → List Track → List Track
+matched detBboxes matches trackers = foldl (λ ts p. corrected ts (p .track) (det detBboxes (p .box))) trackers matches
+
+-- ---- step 7, lines 350-360: a tracker for each unmatched detection
+
+pub record Started : Type 0 where
+  pub trackIdCount : ℕ
+  pub trackers : List Track
+
+abbrev pub startedFrom : ℕ → List Track → Started
+startedFrom trackIdCount trackers = record { trackIdCount = trackIdCount; trackers = trackers }
+
+abbrev pub startOne : Float → List Float → List Float → Started → ℕ → Started
+startOne detThresh detBboxes detScores s detIdx =
+    cond (le detThresh (getD detScores detIdx nan))
+    (startedFrom (s .trackIdCount + 1) (s .trackers ++ (new (det detBboxes detIdx) (s .trackIdCount + 1) ∷ [])))
+    s
+
+unfoldable pub started : Float → List Float → List Float → List ℕ → Started → Started
+started detThresh detBboxes detScores unmatchedDetections s = foldl (startOne detThresh detBboxes detScores) s unmatchedDetections
+
+-- ---- all steps; step 8, lines 362-387, is the output and the retained of the table's definitions
+
+pub record Stages : Type 0 where
+  pub frameCount : ℕ
+  -- 1
+  pub predicted : List Track
+  pub trks : List Float
+  pub confs : List Float
+  -- 2: the scores after each boost
+  pub afterDlo : List Float
+  pub afterDuo : List Float
+  -- 3
+  pub remainInds : List ℕ
+  pub detBboxes : List Float
+  pub detScores : List Float
+  -- 4
+  pub mhDist : List Float
+  -- 5
+  pub result : Assignment
+  -- 6
+  pub matched : List Track
+  -- 7: all trackers, and the last id
+  pub started : Started
+  -- 8: the tracks that are put out, and those that stay
+  pub output : List Track
+  pub retained : List Track
+
+-- from the predicted trackers on
+unfoldable pub steps : Settings → ℕ → ℕ → List Float → List Track → Stages
+steps self frameCount trackIdCount objects predicted =
+    let ts : List Float = trks predicted in
+    let cs : List Float = confs predicted in
+    let once : List Float = afterDlo self (bboxes objects) ts cs predicted (scores objects) in
+    let twice : List Float = afterDuo self frameCount (bboxes objects) predicted once in
+    let inds : List ℕ = remainInds (self .«det_thresh») twice in
+    let boxes : List Float = detBboxes objects inds in
+    let probs : List Float = detScores twice inds in
+    let found : Assignment = result self boxes probs predicted ts cs in
+    let hit : List Track = matched boxes (found .matches) predicted in
+    let all : Started = started (self .«det_thresh») boxes probs (found .unmatchedDetections) (startedFrom trackIdCount hit) in
+    record {
+      frameCount = frameCount;
+      predicted = predicted;
+      trks = ts;
+      confs = cs;
+      afterDlo = once;
+      afterDuo = twice;
+      remainInds = inds;
+      detBboxes = boxes;
+      detScores = probs;
+      mhDist = mhDist (length probs) boxes predicted;
+      result = found;
+      matched = hit;
+      started = all;
+      output = emitted frameCount (self .«min_hits») (all .trackers);
+      retained = retained (self .«max_age») (all .trackers);
+    }
+
+-- self.frame_count += 1, then every tracker is predicted
+unfoldable pub update : Settings → State → List Float → List Track → Stages
+update self state objects trackers = steps self (state .frames + 1) (state .last) objects (map predict trackers)
+
+-- what stands beside the table then
+abbrev pub stateAfter : Stages → State
+stateAfter g = record { count = length (g .retained); last = g .started .trackIdCount; frames = g .frameCount }

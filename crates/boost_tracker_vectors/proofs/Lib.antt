@@ -1,2 +1,0 @@
--- Facts that several proofs of this crate cite.
-pub mod Number

@@ -1,0 +1,3 @@
+-- Two boxes by the cells of assoc.rs's matrices: Overlap, of iou_batch and soft_biou_batch, and Shape, of both shape similarities.
+pub mod Overlap
+pub mod Shape

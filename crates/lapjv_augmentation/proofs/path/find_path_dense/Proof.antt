@@ -1,0 +1,49 @@
+-- `find_path_dense` meets its contract. The search begins level and ends with a free column, so that lo, the columns and the prices are within the slices. Assumes nothing.
+use mathlib.Core.Path.{_∙_}
+use native.Mathlib.Omega.{arith}
+use Rattle.lapjv_definition.proofs.CaEnds.{path-begin, path-is, path-ok, path-result}
+use Rattle.lapjv_augmentation.proofs.path.find_path_dense.Statement.{statement}
+use Rattle.lapjv_augmentation.proofs.path.find_path_dense.Tie as tie
+
+path-init-requires : tie.Need-path-init-requires
+path-init-requires c κs = let q = c .before .before .before .before .before .before .before .before .before .before .pre in (q .0, q .1, q .3, q .5, q .6, q .4)
+
+search-requires : tie.Need-search-requires
+search-requires c κs =
+    let at-path-init = c .before .before .before .before .before .before .before .before .before .before in
+    let start = at-path-init .before .before .before .before .before .before .before .before .before .before .before in
+    let q = start .pre in
+    (q .0, at-path-init .path-init .kept .1 .1 .1 .1 .0 ∙ q .5, q .2, q .3, path-begin (at-path-init .path-init .ensures .1) (at-path-init .path-init .ensures .2) (q .1), q .7)
+
+raise-requires : tie.Need-raise-requires
+raise-requires c κs =
+    let at-search = c .before .before .before .before .before .before .before .before .before in
+    let at-path-init = at-search .before .before .before .before .before .before .before .before .before .before .before in
+    let start = at-path-init .before .before .before .before .before .before .before .before .before .before .before in
+    let a = start .args in
+    let q = start .pre in
+    let w = path-ok (a .n) (a .cost .now) (a .start-i) (a .y .now) (a .v .now) (q .2) (q .7) (q .1) (at-path-init .path-init .ensures) (at-search .search .ensures) in
+    (w .low, w .few-ready, (λ k hk. w .ok .below k (omega (arith, w .ok .len-cols))), w .ok .len-cols, at-search .search .kept .1 .1 .0 ∙ at-path-init .path-init .kept .1 .1 .1 .1 .0 ∙ q .5, q .3)
+
+returns : tie.Need-returns
+returns c =
+    let at-raise = c .before .before in
+    let at-search = at-raise .before .before .before .before .before .before .before .before .before .before in
+    let at-path-init = at-search .before .before .before .before .before .before .before .before .before .before .before in
+    let start = at-path-init .before .before .before .before .before .before .before .before .before .before .before in
+    let a = start .args in
+    let q = start .pre in
+    path-result (a .n) (a .cost .now) (a .start-i) (a .y .now) (a .v .now) (path-is (a .n) (a .cost .now) (a .start-i) (a .y .now) (a .v .now) (at-path-init .path-init .ensures) (at-search .search .ensures)) (at-raise .raise .ensures)
+
+pub find-path-dense-spec : {M : Type 1} → statement M
+find-path-dense-spec =
+    tie.close
+    (tie.spec
+    path-init-requires
+    search-requires
+    raise-requires
+    (λ c. c .before .before .raise .kept .1 .1 .1 .1 .1 .0)
+    (λ c. c .before .before .before .before .before .before .before .before .before .before .before .before .search .kept .1 .1 .1 .1 .0 ∙ c .before .before .before .before .before .before .before .before .before .before .before .before .before .before .before .before .before .before .before .before .before .before .before .path-init .kept .1 .1 .1 .1 .1 .1 .0)
+    (λ c. c .before .before .before .before .before .before .before .before .before .before .before .before .search .kept .1 .1 .0 ∙ c .before .before .before .before .before .before .before .before .before .before .before .before .before .before .before .before .before .before .before .before .before .before .before .path-init .kept .1 .1 .1 .1 .0)
+    (λ c. c .before .before .before .before .before .before .before .before .before .before .before .before .search .kept .1 .1 .1 .0 ∙ c .before .before .before .before .before .before .before .before .before .before .before .before .before .before .before .before .before .before .before .before .before .before .before .path-init .kept .1 .1 .1 .1 .1 .0)
+    returns)

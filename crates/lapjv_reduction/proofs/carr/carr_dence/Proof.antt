@@ -1,0 +1,87 @@
+-- `carr_dence` meets its contract. The invariant: what is left of the definition's turns gives the whole, and the turns so far are few (`CarrOk`); the measure is what is left of n_free_rows × n turns. Assumes nothing.
+use mathlib.Core.Path.{sym, _∙_}
+use Prim.Native.Nat.{_-_, _*_}
+use native.Mathlib.Omega.{arith}
+use Rattle.lapjv_definition.specs.Carr.{carrying, carrDence}
+use Rattle.lapjv_definition.proofs.CarrLaws.{CarrInv, carr-again, carr-done, carr-start, carr-less, carr-small}
+use Rattle.lapjv_reduction.proofs.carr.carr_dence.Statement.{statement}
+use Rattle.lapjv_reduction.proofs.carr.carr_dence.Tie as tie
+
+abbrev Inv-loop : tie.InvT-loop
+Inv-loop n cost nFreeRows freeRows₀ x₀ y₀ v₀ s₀ freeRows x y v s =
+    CarrInv n cost nFreeRows (carrDence n cost nFreeRows freeRows₀ x₀ y₀ v₀) (carrying (s .current) (s .«new_free_rows») (s .«rr_cnt») freeRows x y v)
+
+abbrev μ-loop : tie.MeasureT-loop
+μ-loop n cost nFreeRows freeRows₀ x₀ y₀ v₀ s₀ freeRows x y v s = nFreeRows * n - s .«rr_cnt»
+
+loop-holds : tie.Need-loop-holds Inv-loop μ-loop
+loop-holds c = let q = c .before .before .before .before .before .pre in carr-start (q .0 .some) (q .2) (q .3) (q .4) (q .5) (q .6)
+
+carr-turn-requires : tie.Need-carr-turn-requires Inv-loop μ-loop
+carr-turn-requires c κs =
+    let at-if1 = c .before .before .before .before in
+    let head = at-if1 .before .before in
+    let start = head .before .before .before .before .before .before in
+    let q = start .pre in
+    let k = head .loop .inv .ok in
+    let h = at-if1 .if1 .taken in
+    (q .0, omega (arith, k .cur, h, q .1), k .new, carr-small (head .loop .inv) (q .0 .small) (q .1), k .below _ h, k .len-free, k .len-x, k .len-y, k .len-v)
+
+loop-less : tie.Need-loop-less Inv-loop μ-loop
+loop-less c =
+    let at-carr-turn = c .before .before .before .before .before .before .before .before in
+    let at-if1 = at-carr-turn .before .before .before .before .before in
+    let head = at-if1 .before .before in
+    let start = head .before .before .before .before .before .before in
+    carr-less (head .loop .inv) (start .pre .0 .some) (at-if1 .if1 .taken) (at-carr-turn .carr-turn .ensures)
+
+loop-again : tie.Need-loop-again Inv-loop μ-loop
+loop-again c =
+    let at-carr-turn = c .before .before .before .before .before .before .before .before in
+    let at-if1 = at-carr-turn .before .before .before .before .before in
+    let head = at-if1 .before .before in
+    let start = head .before .before .before .before .before .before in
+    carr-again (head .loop .inv) (start .pre .0 .some) (start .pre .1) (at-if1 .if1 .taken) (at-carr-turn .carr-turn .ensures)
+
+same-length : tie.Need-same-length Inv-loop μ-loop
+same-length c =
+    let head = c .before .before in
+    let start = head .before .before .before .before .before .before in
+    head .loop .inv .ok .len-free ∙ sym (start .pre .3)
+
+same-length-2 : tie.Need-same-length-2 Inv-loop μ-loop
+same-length-2 c =
+    let head = c .before .before in
+    let start = head .before .before .before .before .before .before in
+    head .loop .inv .ok .len-x ∙ sym (start .pre .4)
+
+same-length-3 : tie.Need-same-length-3 Inv-loop μ-loop
+same-length-3 c =
+    let head = c .before .before in
+    let start = head .before .before .before .before .before .before in
+    head .loop .inv .ok .len-y ∙ sym (start .pre .5)
+
+same-length-4 : tie.Need-same-length-4 Inv-loop μ-loop
+same-length-4 c =
+    let head = c .before .before in
+    let start = head .before .before .before .before .before .before in
+    head .loop .inv .ok .len-v ∙ sym (start .pre .6)
+
+returns : tie.Need-returns Inv-loop μ-loop
+returns c = carr-done (c .before .before .loop .inv) (c .if1 .left)
+
+pub carr-dence-spec : {M : Type 1} → statement M
+carr-dence-spec =
+    tie.close
+    (tie.spec
+    Inv-loop
+    μ-loop
+    loop-holds
+    carr-turn-requires
+    loop-less
+    loop-again
+    same-length
+    same-length-2
+    same-length-3
+    same-length-4
+    returns)

@@ -1,0 +1,4 @@
+-- Facts that several proofs of this crate cite.
+pub mod Parts
+pub mod Patterns
+pub mod Digesting

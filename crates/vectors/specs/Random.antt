@@ -1,0 +1,18 @@
+-- Random numbers of 64 bits: docs/ORACLE.md, "The pairing" and "Numbers".
+use Prim.Native.Nat.{ℕ, _*_, _/_, _%_, _^_}
+use lib.Bits.{bitXor}
+
+-- exclusive or with itself, shifted left or right by k
+abbrev pub withLeft : ℕ → ℕ → ℕ
+withLeft k r = bitXor r (r * 2 ^ k % 2 ^ 64)
+
+abbrev pub withRight : ℕ → ℕ → ℕ
+withRight k r = bitXor r (r / 2 ^ k)
+
+-- one step of a xorshift generator
+unfoldable pub next : ℕ → ℕ
+next r = withLeft 17 (withRight 7 (withLeft 13 r))
+
+-- bits 16 k to 16 k + 15 of r
+unfoldable pub part : ℕ → ℕ → ℕ
+part r k = r / 2 ^ (16 * k) % 2 ^ 16
