@@ -10,7 +10,7 @@
  * A pointer comes with the number of its elements or points to as many as its type says, is aligned for
  * its type, and may be anything where that number is 0. Slices that are lent together do not overlap. A
  * bool is 0 or 1. Matrices are flat, row by row, a row for each box and a cell for each track. The arrays
- * that a call needs besides are on the stack: bedside_update takes 37 KiB of it, every other call at most 16.
+ * that a call needs besides are on the stack: bedside_update takes 37 KiB of it, every other call at most 17.
  */
 #ifndef BEDSIDE_H
 #define BEDSIDE_H
