@@ -1,16 +1,52 @@
 /* bedside.h: the proved tracker, for a recorder's firmware in C, C++ or Rust.
  *
- * Link libbedside.a (rt staticlib bedside), for x86-64 Linux. Nothing is allocated, nothing is kept
- * between calls, and of other code memset alone is called. What a call returns is what the definition
- * that its contract in crates/bedside cites gives, bit for bit; only the sign and the payload of a NaN
- * are left open. No call can fail but by its refusal number, 0 where it is accepted; the numbers are
- * those of the scope document. A refused call changes no lent memory, and every other field of its
- * answer is 0 unless the field's comment says otherwise.
+ * Link libbedside.a: `make install` puts both in place, and `pkg-config --cflags --libs bedside` names them. What a
+ * call returns is what the definition that its contract in crates/bedside cites gives, bit for bit; only the sign and
+ * the payload of a NaN are left open. CHANGELOG.md says what each version changed for callers.
  *
- * A pointer comes with the number of its elements or points to as many as its type says, is aligned for
- * its type, and may be anything where that number is 0. Slices that are lent together do not overlap. A
- * bool is 0 or 1. Matrices are flat, row by row, a row for each box and a cell for each track. The arrays
- * that a call needs besides are on the stack: bedside_update takes 37 KiB of it, every other call at most 17.
+ * ---- What the library does not do ----
+ * It allocates nothing, keeps nothing between calls and has no data of its own: 33 kB of code, no variables. Every call
+ * is reentrant, from any thread, and two trackers are two tables. No call fails but by its refusal number, overflows,
+ * runs forever, or touches memory that it was not lent. Of other code it calls memset alone.
+ *
+ * ---- What a caller guarantees ----
+ * - x86-64 Linux, with its calling convention. The code needs no more than SSE2, and links into programs and shared
+ *   objects at any address.
+ * - The floating-point environment that a process starts with: rounding to the nearest, nothing flushed to zero,
+ *   exceptions masked. A program that is linked with -ffast-math has flush to zero and denormals-are-zero set at its
+ *   start, whatever its objects were compiled with: a box of the width 1e-40, which is above 0, is then refused with
+ *   16. After fesetround(FE_UPWARD) the last bits of results differ. A call leaves rounding and flushing as they are,
+ *   and may raise exception flags.
+ * - A pointer comes with the number of its elements, its _len, or points to as many as its type says. That number is
+ *   true; the pointer is aligned for its type, and may be anything, NULL too, where the number is 0.
+ * - Slices that are lent together do not overlap.
+ * - A bool is 0 or 1.
+ * - Table and state go on from frame to frame as the last call left them. A call accepts whatever is sound (11), but
+ *   only then do tracks go on, and no id is given twice.
+ * - Stack, below the caller's frame: 37 KiB for bedside_update, at most 17 KiB for every other call.
+ *
+ * ---- Refusals ----
+ * A call that is turned down says the number why, and 0 where it is accepted (enum bedside_refusal below). It changes
+ * no lent memory, and every other field of its answer is 0 unless the field's comment says otherwise.
+ *
+ * ---- Memory to lend to bedside_update, in bytes ----
+ *
+ *   a table of places     16       32        64       128         255    for p places
+ *   floats             1,536    3,072     6,144    12,288      24,480    96 p
+ *   counters             512    1,024     2,048     4,096       8,160    32 p
+ *   boxes                320      640     1,280     2,560       5,100    20 p
+ *   out                  512    1,024     2,048     4,096       8,160    32 p
+ *   work64             2,048    8,192    32,768   131,072     520,200    8 p p
+ *   work32             4,096   16,384    65,536   262,144   1,040,400    16 p p
+ *   together           9,024   30,336   109,824   416,256   1,606,500
+ *
+ * Held tracks and boxes of a frame together fit into the places, so p boxes are the most, and p is the most that the
+ * work needs as its side. n people in view all the time are n held tracks and n boxes: 2 n places. The floats, the
+ * counters and the state are the tracker and stay; the others are needed during a call, and may be shared by several
+ * trackers that take turns. Work slices that are lent are cleared whole: a frame that is lent no more than the
+ * functions bedside_.._len say for its tracks and boxes is the fastest.
+ *
+ * Matrices are flat, row by row, a row for each box and a cell for each track.
  */
 #ifndef BEDSIDE_H
 #define BEDSIDE_H
@@ -18,10 +54,89 @@
 #include <stdbool.h>
 #include <stddef.h>
 #include <stdint.h>
+#include <string.h>
 
 #ifdef __cplusplus
 extern "C" {
 #endif
+
+/* ---- version ---- */
+#define BEDSIDE_VERSION_MAJOR 1
+#define BEDSIDE_VERSION_MINOR 0
+#define BEDSIDE_VERSION_PATCH 0
+#define BEDSIDE_VERSION (BEDSIDE_VERSION_MAJOR * 10000 + BEDSIDE_VERSION_MINOR * 100 + BEDSIDE_VERSION_PATCH)
+#define BEDSIDE_VERSION_STRING "1.0.0"
+
+/* ---- sizes ---- */
+#define BEDSIDE_PLACE_FLOATS 24       /* a place of the table */
+#define BEDSIDE_PLACE_COUNTERS 4
+#define BEDSIDE_BOX_FLOATS 5          /* a box of a frame: left, top, width, height, score */
+#define BEDSIDE_CORNER_FLOATS 4       /* a box or a track of the pairs: x1, y1, x2, y2 */
+#define BEDSIDE_BOX_RECORD_BYTES 24   /* a record that trackbox reads */
+#define BEDSIDE_TRACK_RECORD_BYTES 32 /* a record of out */
+
+/* ---- limits ---- */
+#define BEDSIDE_MOST_PLACES 255         /* of a table; what is lent beyond them is not used */
+#define BEDSIDE_MOST_TRACKS 255         /* of a call of the pairs */
+#define BEDSIDE_MOST_BOXES 255          /* of a frame or a call of the pairs */
+#define BEDSIDE_MOST_SIDE 255           /* of an assignment */
+#define BEDSIDE_MOST_LENGTH 65536       /* left, top, width and height, in magnitude */
+#define BEDSIDE_MOST_FRAMES 2147483647  /* a table that has worked so many takes no further one */
+
+/* Lengths for arrays of a fixed size, enough for every frame of a table of so many places. */
+#define BEDSIDE_FLOATS_LEN(places) ((places) * BEDSIDE_PLACE_FLOATS)
+#define BEDSIDE_COUNTERS_LEN(places) ((places) * BEDSIDE_PLACE_COUNTERS)
+#define BEDSIDE_BOXES_LEN(boxes) ((boxes) * BEDSIDE_BOX_FLOATS)
+#define BEDSIDE_OUT_LEN(places) ((places) * BEDSIDE_TRACK_RECORD_BYTES)
+#define BEDSIDE_WORK64_LEN(places) ((places) * (places))
+#define BEDSIDE_WORK32_LEN(places) (4 * (places) * (places))
+
+/* ---- refusals ---- */
+enum bedside_refusal {
+    BEDSIDE_ACCEPTED = 0,
+    /* a frame; a correction by itself has 12 alone */
+    BEDSIDE_TABLE_NOT_SOUND = 11,
+    BEDSIDE_TRACK_NOT_WORKABLE = 12,
+    BEDSIDE_SETTING_NOT_FINITE = 13,
+    BEDSIDE_TOO_MANY_BOXES = 14,
+    BEDSIDE_TABLE_FULL = 15,
+    BEDSIDE_BAD_BOX = 16,
+    BEDSIDE_TOO_MANY_FRAMES = 17,
+    BEDSIDE_OUTPUT_SHORT = 18,
+    BEDSIDE_WORK_SHORT = 19,
+    /* the assignment */
+    BEDSIDE_NO_SIDE = 21,
+    BEDSIDE_SIDE_ABOVE_255 = 22,
+    BEDSIDE_WRONG_SIZE = 23,
+    /* the pairs */
+    BEDSIDE_TOO_MANY = 31,
+    BEDSIDE_OTHER_SIZE = 32,
+    BEDSIDE_TOO_SHORT = 33
+};
+
+/* The number in words, for a log. */
+static inline const char *bedside_refusal_text(uint32_t refusal)
+{
+    switch (refusal) {
+    case BEDSIDE_ACCEPTED: return "accepted";
+    case BEDSIDE_TABLE_NOT_SOUND: return "the table is not sound";
+    case BEDSIDE_TRACK_NOT_WORKABLE: return "a track cannot be predicted and corrected";
+    case BEDSIDE_SETTING_NOT_FINITE: return "a float setting is not finite";
+    case BEDSIDE_TOO_MANY_BOXES: return "more than 255 boxes";
+    case BEDSIDE_TABLE_FULL: return "held tracks and boxes exceed the places of the table";
+    case BEDSIDE_BAD_BOX: return "a box has a value outside its limits";
+    case BEDSIDE_TOO_MANY_FRAMES: return "the frame count has reached its limit";
+    case BEDSIDE_OUTPUT_SHORT: return "out is shorter than held tracks and boxes need";
+    case BEDSIDE_WORK_SHORT: return "a work slice is too short";
+    case BEDSIDE_NO_SIDE: return "the side is 0";
+    case BEDSIDE_SIDE_ABOVE_255: return "the side is above 255";
+    case BEDSIDE_WRONG_SIZE: return "a slice is not as long as the side says";
+    case BEDSIDE_TOO_MANY: return "more than 255 boxes or tracks";
+    case BEDSIDE_OTHER_SIZE: return "an input is not as long as the sides say";
+    case BEDSIDE_TOO_SHORT: return "a result or work slice is too short";
+    default: return "no refusal of this library";
+    }
+}
 
 /* ---- float functions: accept everything ---- */
 float bedside_max(float a, float b);    /* where one is a NaN, the other; on equality, the first */
@@ -63,10 +178,11 @@ bedside_lapjv_answer bedside_lapjv(size_t n, const double *cost, size_t cost_len
 
 /* ---- pairs: 31 more than 255 boxes or tracks, 32 an input of another length than the sides say, 33 a
  * result or work slice too short; the lowest that applies is said ----
- * Corners are 4 floats each: x1, y1, x2, y2. A matrix has boxes * tracks cells. Results may be longer than
- * they have to be: what is not needed of them is left as it was. Work slices have at least n * n doubles,
- * and for associate 4 * n * n floats, n the larger side even where the other is 0; after an accepted call
- * every lent cell of them is 0. Zero boxes or zero tracks is accepted. */
+ * detections are the boxes' corners and corners the tracks', 4 floats each: x1, y1, x2, y2. A matrix has
+ * boxes * tracks cells. Results may be longer than they have to be: what is not needed of them is left as it
+ * was. Work slices have at least n * n doubles, and for associate 4 * n * n floats, n the larger side even
+ * where the other is 0 (bedside_work64_len, bedside_work32_len); after an accepted call every lent cell of
+ * them is 0. Zero boxes or zero tracks is accepted. */
 uint32_t bedside_iou_batch(size_t boxes, size_t tracks, const float *detections, size_t detections_len,
                            const float *corners, size_t corners_len, float *out, size_t out_len);
 uint32_t bedside_soft_biou_batch(size_t boxes, size_t tracks, const float *detections, size_t detections_len,
@@ -177,15 +293,94 @@ typedef struct {
  * after an accepted frame. Held tracks and boxes together need as many places, and as many records of out.
  * boxes: 5 floats each, left, top, width, height, score: all finite, the first four at most 65536 in
  * magnitude, width and height above 0, score 0 to 1.
- * out: 32 bytes a record, little-endian: frame count (4 bytes), id (8), then left, top, width, height and
- * confidence as floats; what is not needed of it is left as it was. A rest of fewer than 5 floats or 32 bytes
- * is not looked at.
+ * out: 32 bytes a record (bedside_track_at reads them); what is not needed of it is left as it was. A rest of
+ * fewer than 5 floats or 32 bytes is not looked at.
  * Work slices have at least n * n doubles and 4 * n * n floats, n the larger of held tracks and boxes; after
  * an accepted frame every lent cell of them is 0. */
 bedside_update_answer bedside_update(bedside_settings settings, bedside_state state, float *floats,
                                      size_t floats_len, uint64_t *counters, size_t counters_len,
                                      const float *boxes, size_t boxes_len, uint8_t *out, size_t out_len,
                                      double *work64, size_t work64_len, float *work32, size_t work32_len);
+
+/* ---- lengths to lend: for a table of so many places, and for a frame of so many held tracks (state.count) and
+ * boxes. The work of the pairs has the same lengths. ---- */
+static inline size_t bedside_floats_len(size_t places)
+{
+    return BEDSIDE_FLOATS_LEN(places);
+}
+
+static inline size_t bedside_counters_len(size_t places)
+{
+    return BEDSIDE_COUNTERS_LEN(places);
+}
+
+static inline size_t bedside_boxes_len(size_t boxes)
+{
+    return BEDSIDE_BOXES_LEN(boxes);
+}
+
+static inline size_t bedside_out_len(size_t tracks, size_t boxes)
+{
+    return BEDSIDE_OUT_LEN(tracks + boxes);
+}
+
+static inline size_t bedside_work64_len(size_t tracks, size_t boxes)
+{
+    return tracks < boxes ? BEDSIDE_WORK64_LEN(boxes) : BEDSIDE_WORK64_LEN(tracks);
+}
+
+static inline size_t bedside_work32_len(size_t tracks, size_t boxes)
+{
+    return 4 * bedside_work64_len(tracks, boxes);
+}
+
+/* ---- the records of out: little-endian, frame count (4 bytes), id (8), then five floats ---- */
+typedef struct {
+    uint32_t frame;
+    uint64_t id;
+    float left;
+    float top;
+    float width;
+    float height;
+    float confidence; /* from age 7 on 0.9 to the power -1, which is above 1 */
+} bedside_track;
+
+static inline uint32_t bedside_u32_at(const uint8_t *bytes)
+{
+    uint32_t number = bytes[3];
+    number = number << 8 | bytes[2];
+    number = number << 8 | bytes[1];
+    return number << 8 | bytes[0];
+}
+
+static inline uint64_t bedside_u64_at(const uint8_t *bytes)
+{
+    uint64_t high = bedside_u32_at(bytes + 4);
+    return high << 32 | bedside_u32_at(bytes);
+}
+
+static inline float bedside_f32_at(const uint8_t *bytes)
+{
+    uint32_t bits = bedside_u32_at(bytes);
+    float value;
+    memcpy(&value, &bits, sizeof value);
+    return value;
+}
+
+/* Record k, counted from 0, of the answer's `emitted` ones. */
+static inline bedside_track bedside_track_at(const uint8_t *out, size_t k)
+{
+    const uint8_t *record = out + BEDSIDE_TRACK_RECORD_BYTES * k;
+    bedside_track track;
+    track.frame = bedside_u32_at(record);
+    track.id = bedside_u64_at(record + 4);
+    track.left = bedside_f32_at(record + 12);
+    track.top = bedside_f32_at(record + 16);
+    track.width = bedside_f32_at(record + 20);
+    track.height = bedside_f32_at(record + 24);
+    track.confidence = bedside_f32_at(record + 28);
+    return track;
+}
 
 #ifdef __cplusplus
 }

@@ -7,11 +7,14 @@
 
 #[path = "../clock.rs"]
 mod clock;
+#[allow(dead_code)]
+#[path = "../../oracle/library/digest.rs"]
+mod digest;
 #[path = "../../oracle/lapjv/error.rs"]
 mod error;
 mod floats;
 #[allow(dead_code)]
-#[path = "../../oracle/assoc/inputs.rs"]
+#[path = "../../oracle/library/inputs.rs"]
 mod inputs;
 mod port;
 #[allow(warnings)]

@@ -5,10 +5,13 @@
 
 #[path = "../clock.rs"]
 mod clock;
+#[allow(dead_code)]
+#[path = "../../oracle/library/digest.rs"]
+mod digest;
 #[path = "../../oracle/lapjv/error.rs"]
 mod error;
 #[allow(dead_code)]
-#[path = "../../oracle/lapjv/matrices.rs"]
+#[path = "../../oracle/library/matrices.rs"]
 mod matrices;
 #[allow(warnings)]
 mod lapjv {

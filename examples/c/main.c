@@ -5,6 +5,8 @@
 
 #include "bedside.h"
 
+#define LENGTH(array) (sizeof(array) / sizeof(array)[0])
+
 static void show(const char *call, float result)
 {
     uint32_t bits;
@@ -71,10 +73,10 @@ static void assignment(void)
 /* Two boxes and two tracks in each other's order, one pair after the other; then a list that is too short. */
 static void pairs(void)
 {
-    const float boxes[8] = {0, 0, 10, 10, 20, 0, 30, 10};
-    const float tracks[8] = {21, 0, 31, 10, 5, 0, 15, 10};
+    const float detections[8] = {0, 0, 10, 10, 20, 0, 30, 10};
+    const float corners[8] = {21, 0, 31, 10, 5, 0, 15, 10};
     float iou[4];
-    uint32_t refusal = bedside_iou_batch(2, 2, boxes, 8, tracks, 8, iou, 4);
+    uint32_t refusal = bedside_iou_batch(2, 2, detections, 8, corners, 8, iou, 4);
     printf("%-15s refusal %u\n", "iou_batch", (unsigned)refusal);
     show("iou of 0, 1", iou[1]);
 
@@ -83,7 +85,7 @@ static void pairs(void)
     double work64[4];
     float work32[16];
     bedside_assignment answer =
-        bedside_associate(params, 2, 2, boxes, 8, tracks, 8, NULL, 0, NULL, 0, NULL, 0, pair_boxes, 2, pair_tracks, 2,
+        bedside_associate(params, 2, 2, detections, 8, corners, 8, NULL, 0, NULL, 0, NULL, 0, pair_boxes, 2, pair_tracks, 2,
                           left_boxes, 2, left_tracks, 2, work64, 4, work32, 16);
     printf("%-15s refusal %u pairs %u: %u %u, %u %u\n", "associate", (unsigned)answer.refusal,
            (unsigned)answer.pairs, (unsigned)pair_boxes[0], (unsigned)pair_tracks[0], (unsigned)pair_boxes[1],
@@ -104,11 +106,63 @@ static void pairs(void)
     printf("%-15s refusal %u pairs %u\n", "match, short", (unsigned)matched.refusal, (unsigned)matched.pairs);
 }
 
+enum { PLACES = 4 };
+
+/* A tracker, and what a frame needs. */
+typedef struct {
+    bedside_state state;
+    float floats[BEDSIDE_FLOATS_LEN(PLACES)];
+    uint64_t counters[BEDSIDE_COUNTERS_LEN(PLACES)];
+    uint8_t out[BEDSIDE_OUT_LEN(PLACES)];
+    double work64[BEDSIDE_WORK64_LEN(PLACES)];
+    float work32[BEDSIDE_WORK32_LEN(PLACES)];
+} tracker;
+
+static void show_track(bedside_track track)
+{
+    printf("%-15s %u at %.6f %.6f size %.6f %.6f confidence %.6f\n", "track", (unsigned)track.id, track.left,
+           track.top, track.width, track.height, track.confidence);
+}
+
+/* One frame; a box is five floats. */
+static void frame(tracker *t, const float *boxes, size_t boxes_len)
+{
+    const bedside_settings settings = bedside_settings_new(0.6f, 0.3f, 30, 3);
+    bedside_update_answer answer =
+        bedside_update(settings, t->state, t->floats, BEDSIDE_FLOATS_LEN(PLACES), t->counters,
+                       BEDSIDE_COUNTERS_LEN(PLACES), boxes, boxes_len, t->out, BEDSIDE_OUT_LEN(PLACES),
+                       t->work64, BEDSIDE_WORK64_LEN(PLACES), t->work32, BEDSIDE_WORK32_LEN(PLACES));
+    t->state = answer.state; /* the one given, where the frame is refused */
+    printf("%-15s refusal %u index %u frames %u held %u\n", "update", (unsigned)answer.refusal,
+           (unsigned)answer.index, (unsigned)answer.state.frame_count, (unsigned)answer.state.count);
+    for (size_t k = 0; k < answer.emitted; k++)
+        show_track(bedside_track_at(t->out, k));
+}
+
+/* Two sleepers, of whom the second is missed once; then a box without width, and more boxes than places are left. */
+static void frames(void)
+{
+    static tracker t;
+    static const float first[] = {10, 20, 32, 64, 0.75f, 60, 20, 30, 60, 0.875f};
+    static const float second[] = {60.5f, 20.25f, 30, 60, 0.875f, 10.5f, 20, 32, 64, 0.75f};
+    static const float missed[] = {11, 20.5f, 32, 64, 0.75f};
+    static const float fourth[] = {11, 20.5f, 32, 64, 0.75f, 61, 20, 30, 60, 0.875f};
+    static const float no_width[] = {11, 20, 32, 64, 0.75f, 61, 20, 0, 60, 0.875f};
+    static const float three[] = {11, 20, 32, 64, 0.75f, 61, 20, 30, 60, 0.875f, 90, 20, 30, 60, 0.75f};
+    frame(&t, first, LENGTH(first));
+    frame(&t, second, LENGTH(second));
+    frame(&t, missed, LENGTH(missed));
+    frame(&t, fourth, LENGTH(fourth));
+    frame(&t, no_width, LENGTH(no_width));
+    frame(&t, three, LENGTH(three));
+}
+
 int main(void)
 {
     float_functions();
     filter();
     assignment();
     pairs();
+    frames();
     return 0;
 }

@@ -1,152 +1,162 @@
-//! A night through bedside_update: reads box records on standard input and prints a line for each track that a
-//! frame emits, the lines of the program trackbox.
+//! A night through a tracker: reads box records on standard input and prints what the program trackbox prints, a line
+//! for each track that a frame puts out, and for a stream that cannot go on the refusal and the record that it names.
+//! Ends with 0, or 1 where the stream was refused, or 2 where it could not be read or its lines could not be written.
 
-use std::io::{self, BufWriter, Read, Write};
+use bedside::{Detection, Settings, Tracker};
+use std::io::{self, BufRead, BufWriter, StdoutLock, Write};
+use std::process::ExitCode;
 
-mod bedside {
-    #[derive(Clone, Copy)]
-    #[repr(C)]
-    pub struct Settings {
-        pub det_thresh: f32,
-        pub iou_threshold: f32,
-        pub lambda_iou: f32,
-        pub lambda_mhd: f32,
-        pub lambda_shape: f32,
-        pub dlo_boost_coef: f32,
-        pub max_age: u64,
-        pub min_hits: u64,
-        pub use_dlo_boost: bool,
-        pub use_duo_boost: bool,
-        pub use_rich_similarity: bool,
-        pub use_shape_similarity_correction: bool,
-        pub use_soft_boost: bool,
-        pub use_varying_threshold: bool,
-    }
+/// The bytes of a box record: the frame's number, then left, top, width, height and score.
+const RECORD: usize = 24;
+/// The most boxes of a frame.
+const BOXES: usize = 64;
+/// How far a frame number may be above the last one.
+const AHEAD: u32 = 1000;
 
-    #[derive(Clone, Copy, Default)]
-    #[repr(C)]
-    pub struct State {
-        pub count: u64,
-        pub last_id: u64,
-        pub frame_count: u64,
-    }
+/// The stream's own refusals; those of a frame are the tracker's.
+const RECORD_INCOMPLETE: u32 = 41;
+const FRAME_BELOW: u32 = 42;
+const FRAME_BEYOND: u32 = 43;
+const TOO_MANY_BOXES: u32 = 44;
 
-    #[repr(C)]
-    pub struct UpdateAnswer {
-        pub refusal: u32,
-        pub index: u64,
-        pub state: State,
-        pub emitted: u64,
-        pub turns: u64,
-        pub scans: u64,
-    }
+/// Why a night ends before its stream does.
+enum End {
+    Refused { number: u32, record: u64 },
+    Unread(io::Error),
+    Unwritten(io::Error),
+}
 
-    #[link(name = "bedside", kind = "static")]
-    extern "C" {
-        fn bedside_settings_new(det_thresh: f32, iou_threshold: f32, max_age: u64, min_hits: u64) -> Settings;
-        fn bedside_update(
-            settings: Settings, state: State, floats: *mut f32, floats_len: usize, counters: *mut u64,
-            counters_len: usize, boxes: *const f32, boxes_len: usize, out: *mut u8, out_len: usize, work64: *mut f64,
-            work64_len: usize, work32: *mut f32, work32_len: usize,
-        ) -> UpdateAnswer;
-    }
+/// What is known between two records.
+struct Night {
+    tracker: Tracker,
+    lines: BufWriter<StdoutLock<'static>>,
+    /// The number of the last record.
+    record: u64,
+    /// The frame that has records and is not worked yet; 0 before the first record.
+    open: u32,
+    /// The open frame's first record, and its boxes.
+    first: u64,
+    boxes: Vec<Detection>,
+}
 
-    /// The most tracks, and boxes of a frame.
-    pub const SIDE: usize = 64;
-
-    pub struct Tracker {
-        settings: Settings,
-        state: State,
-        floats: [f32; 24 * SIDE],
-        counters: [u64; 4 * SIDE],
-        out: [u8; 32 * SIDE],
-        work64: [f64; SIDE * SIDE],
-        work32: [f32; 4 * SIDE * SIDE],
-    }
-
-    // SAFETY, of each call: the function is proved to accept every value, and touches no memory but what it is
-    // lent, within the lengths that go with it.
-    impl Tracker {
-        pub fn new(det_thresh: f32, iou_threshold: f32, max_age: u64, min_hits: u64) -> Tracker {
-            Tracker {
-                settings: unsafe { bedside_settings_new(det_thresh, iou_threshold, max_age, min_hits) },
-                state: State::default(),
-                floats: [0.0; 24 * SIDE],
-                counters: [0; 4 * SIDE],
-                out: [0; 32 * SIDE],
-                work64: [0.0; SIDE * SIDE],
-                work32: [0.0; 4 * SIDE * SIDE],
-            }
+impl Night {
+    fn new() -> Night {
+        Night {
+            tracker: Tracker::new(Settings::new(0.6, 0.3, 30, 3)),
+            lines: BufWriter::new(io::stdout().lock()),
+            record: 0,
+            open: 0,
+            first: 0,
+            boxes: Vec::with_capacity(BOXES),
         }
+    }
 
-        /// The frames worked so far.
-        pub fn frame_count(&self) -> u64 {
-            self.state.frame_count
+    /// The next frame, with the boxes held; where it is refused, it names this record.
+    fn work_frame(&mut self, record: u64) -> Result<(), End> {
+        let refused = |why: bedside::Refusal| End::Refused { number: why.number(), record };
+        for track in self.tracker.update(&self.boxes).map_err(refused)? {
+            writeln!(self.lines, "{track}").map_err(End::Unwritten)?;
         }
+        self.boxes.clear();
+        Ok(())
+    }
 
-        /// The next frame, five floats a box: the track records that it emits, or its refusal.
-        pub fn update(&mut self, boxes: &[f32]) -> Result<&[u8], u32> {
-            let Tracker { floats: f, counters: c, out, work64: w, work32: v, .. } = self;
-            let answer = unsafe {
-                bedside_update(
-                    self.settings, self.state, f.as_mut_ptr(), f.len(), c.as_mut_ptr(), c.len(), boxes.as_ptr(),
-                    boxes.len(), out.as_mut_ptr(), out.len(), w.as_mut_ptr(), w.len(), v.as_mut_ptr(), v.len(),
-                )
-            };
-            if answer.refusal != 0 {
-                return Err(answer.refusal);
-            }
-            self.state = answer.state;
-            Ok(&self.out[..32 * answer.emitted as usize])
+    fn work_open_frame(&mut self) -> Result<(), End> {
+        match self.open {
+            0 => Ok(()),
+            _ => self.work_frame(self.first),
         }
+    }
+
+    /// The open frame, then one without boxes for each number that no record has.
+    fn work_frames_before(&mut self, frame: u32) -> Result<(), End> {
+        self.work_open_frame()?;
+        while self.tracker.frame_count() + 1 < u64::from(frame) {
+            self.work_frame(self.record)?;
+        }
+        Ok(())
+    }
+
+    /// Why the stream cannot go on with a record of this frame.
+    fn refusal_of(&self, frame: u32) -> Option<u32> {
+        if frame == 0 || frame < self.open {
+            return Some(FRAME_BELOW);
+        }
+        if frame - self.open > AHEAD {
+            return Some(FRAME_BEYOND);
+        }
+        (frame == self.open && self.boxes.len() == BOXES).then_some(TOO_MANY_BOXES)
+    }
+
+    fn take(&mut self, frame: u32, detection: Detection) -> Result<(), End> {
+        self.record += 1;
+        if let Some(number) = self.refusal_of(frame) {
+            return Err(End::Refused { number, record: self.record });
+        }
+        if self.open < frame {
+            self.work_frames_before(frame)?;
+            (self.open, self.first) = (frame, self.record);
+        }
+        self.boxes.push(detection);
+        Ok(())
+    }
+
+    /// The whole stream.
+    fn run(&mut self, input: &mut impl BufRead) -> Result<(), End> {
+        while let Some(record) = read_record(input, self.record + 1)? {
+            let (frame, detection) = parse(&record);
+            self.take(frame, detection)?;
+        }
+        self.work_open_frame()
+    }
+
+    /// Writes what waits, and where the stream was refused the line that says so.
+    fn finish(mut self, end: &Result<(), End>) -> io::Result<()> {
+        if let Err(End::Refused { number, record }) = end {
+            writeln!(self.lines, "refused {number} record {record}")?;
+        }
+        self.lines.flush()
     }
 }
 
-fn u32_at(bytes: &[u8], at: usize) -> u32 {
-    u32::from_le_bytes(bytes[at..at + 4].try_into().unwrap())
-}
-
-/// The next frame of the tracker, printed.
-fn work_frame(tracker: &mut bedside::Tracker, boxes: &[f32], lines: &mut impl Write) -> Result<(), String> {
-    let records = tracker.update(boxes).map_err(|number| format!("refused {number}"))?;
-    for record in records.chunks(32) {
-        let id = u64::from_le_bytes(record[4..12].try_into().unwrap());
-        // left, top, width, height, confidence
-        let bits: String = record[12..].chunks(4).map(|v| format!(" {:08x}", u32_at(v, 0))).collect();
-        writeln!(lines, "{} {id}{bits}", u32_at(record, 0)).map_err(|e| e.to_string())?;
+/// The record with this number; None at the end of the stream.
+fn read_record(input: &mut impl BufRead, number: u64) -> Result<Option<[u8; RECORD]>, End> {
+    let mut record = [0; RECORD];
+    if input.fill_buf().map_err(End::Unread)?.is_empty() {
+        return Ok(None);
     }
-    Ok(())
-}
-
-fn night(input: &[u8], lines: &mut impl Write) -> Result<(), String> {
-    let mut tracker = bedside::Tracker::new(0.6, 0.3, 30, 3);
-    let mut boxes = Vec::new(); // of the frame after those worked
-    for record in input.chunks_exact(24) {
-        let frame = u64::from(u32_at(record, 0));
-        if frame <= tracker.frame_count() || frame > tracker.frame_count() + 1001 {
-            return Err("a stream that trackbox refuses".to_string());
+    match input.read_exact(&mut record) {
+        Ok(()) => Ok(Some(record)),
+        Err(e) if e.kind() == io::ErrorKind::UnexpectedEof => {
+            Err(End::Refused { number: RECORD_INCOMPLETE, record: number })
         }
-        // a number that no record has is an empty frame
-        while tracker.frame_count() + 1 < frame {
-            work_frame(&mut tracker, &boxes, lines)?;
-            boxes.clear();
-        }
-        boxes.extend((4..24).step_by(4).map(|at| f32::from_bits(u32_at(record, at))));
+        Err(e) => Err(End::Unread(e)),
     }
-    if !boxes.is_empty() {
-        work_frame(&mut tracker, &boxes, lines)?;
-    }
-    Ok(())
 }
 
-fn main() -> io::Result<()> {
-    let mut input = Vec::new();
-    io::stdin().read_to_end(&mut input)?;
-    let mut lines = BufWriter::new(io::stdout());
-    if let Err(why) = night(&input, &mut lines) {
-        writeln!(lines, "{why}")?;
-        lines.flush()?;
-        std::process::exit(1);
+fn parse(record: &[u8; RECORD]) -> (u32, Detection) {
+    let word = |k: usize| u32::from_le_bytes(std::array::from_fn(|i| record[4 * k + i]));
+    let [left, top, width, height, score] = [1, 2, 3, 4, 5].map(|k| f32::from_bits(word(k)));
+    (word(0), Detection::new(left, top, width, height, score))
+}
+
+fn failed(stream: &str, why: &io::Error) -> ExitCode {
+    eprintln!("night: standard {stream}: {why}");
+    ExitCode::from(2)
+}
+
+fn main() -> ExitCode {
+    let mut night = Night::new();
+    let end = night.run(&mut io::stdin().lock());
+    if let Err(End::Unwritten(why)) = &end {
+        return failed("output", why);
     }
-    lines.flush()
+    if let Err(why) = night.finish(&end) {
+        return failed("output", &why);
+    }
+    match end {
+        Err(End::Unread(why)) => failed("input", &why),
+        Err(_) => ExitCode::from(1),
+        Ok(()) => ExitCode::SUCCESS,
+    }
 }

@@ -2,8 +2,8 @@
 //! processor's own root. Every bit is compared, of a NaN only that it is one.
 
 use crate::case::Case;
-use crate::plain;
-use crate::random::Random;
+use recipes as plain;
+use oracle::random::Random;
 use crate::report::{Found, Report};
 use jamtrack_rs::floats::{self, Pick};
 

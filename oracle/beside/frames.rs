@@ -1,74 +1,45 @@
 //! A frame: the port's bedside_update beside the published tracker, the whole table and every lent cell.
 
 use crate::case::Case;
-use crate::digest::bits;
-use crate::frame::{Answer, Record, Table};
+use oracle::digest::bits;
+use oracle::frame::{Answer, Record, Table, needed};
 use crate::lent::Lent;
 use crate::port::{self, Updated};
-use crate::random::Random;
+use oracle::random::Random;
 use crate::report::{Found, Report, caught};
-use crate::scenes::{self, Scene};
-use crate::tables;
-use crate::verdict::{State, capacity};
+use oracle::input::Input;
+use oracle::lines::{BYTE, WORK};
+use oracle::scenes::{self, Scene};
+use oracle::tables;
+use oracle::verdict::{State, capacity};
 use jamtrack_rs::boost_tracker::boost_tracker::inside::Settings;
 use std::panic::{AssertUnwindSafe, catch_unwind};
 
-/// What the lent output bytes and work slices hold before a call.
-const BYTE: u8 = 7;
-const WORK: f32 = 1.0;
-
-/// A call of a frame: all that is given and lent, of output and work slices the lengths.
-#[derive(Clone)]
-pub struct Input {
-    pub settings: Settings,
-    pub state: State,
-    pub floats: Vec<f32>,
-    pub counters: Vec<u64>,
-    pub boxes: Vec<f32>,
-    pub lengths: [usize; 3],
+/// The inputs of a frame, for one of the kinds that draw frames.
+pub fn case(kind: &str, input: &Input) -> Case {
+    let State { count, last, frames } = input.state;
+    let case = Case::new(kind).words("settings", &input.settings.words()).words("state", &[count, last, frames]);
+    let case = case.floats("floats", &input.floats).words("counters", &input.counters);
+    case.floats("boxes", &input.boxes).numbers("lengths", &input.lengths)
 }
 
-impl Input {
-    pub fn new(table: &Table, boxes: &[f32], lengths: [usize; 3]) -> Input {
-        Input {
-            settings: table.settings,
-            state: table.state,
-            floats: table.floats.clone(),
-            counters: table.counters.clone(),
-            boxes: boxes.to_vec(),
-            lengths,
-        }
+pub fn read(case: &Case) -> Input {
+    let [count, last, frames] = case.get("state").try_into().expect("three words");
+    Input {
+        settings: Settings::of(case.get("settings")),
+        state: State { count, last, frames },
+        floats: case.get_floats("floats"),
+        counters: case.get("counters").to_vec(),
+        boxes: case.get_floats("boxes"),
+        lengths: case.get_numbers("lengths").try_into().expect("three lengths"),
     }
+}
 
-    fn case(&self) -> Case {
-        let State { count, last, frames } = self.state;
-        let case = Case::new("frames").words("settings", &self.settings.words()).words("state", &[count, last, frames]);
-        let case = case.floats("floats", &self.floats).words("counters", &self.counters);
-        case.floats("boxes", &self.boxes).numbers("lengths", &self.lengths)
-    }
-
-    fn read(case: &Case) -> Input {
-        let [count, last, frames] = case.get("state").try_into().expect("three words");
-        Input {
-            settings: Settings::of(case.get("settings")),
-            state: State { count, last, frames },
-            floats: case.get_floats("floats"),
-            counters: case.get("counters").to_vec(),
-            boxes: case.get_floats("boxes"),
-            lengths: case.get_numbers("lengths").try_into().expect("three lengths"),
-        }
-    }
-
-    fn table(&self) -> Table {
-        Table::new(self.settings, self.state, self.floats.clone(), self.counters.clone())
-    }
-
-    /// Asked of the build without optimisation.
-    fn finite(&self) -> bool {
-        let State { count, last, frames } = self.state;
-        let (floats, counters) = (&self.floats, &self.counters);
-        finite::finite(&self.settings.words(), [count, last, frames], floats, counters, &self.boxes)
-    }
+/// Asked of the build without optimisation.
+pub fn finite(input: &Input) -> bool {
+    let State { count, last, frames } = input.state;
+    let (floats, counters) = (&input.floats, &input.counters);
+    oracle_plain::input::finite(&input.settings.words(), [count, last, frames], floats, counters, &input.boxes)
 }
 
 // ---- the port
@@ -169,8 +140,7 @@ fn difference(table: &Table, answer: &Answer, port: &Updated, back: &Back) -> Op
 /// Both on one frame, from which the Rust's table goes on. The number and the row turns that both answered.
 fn agree(table: &mut Table, input: &Input) -> Result<(u64, u64), String> {
     let (port, back) = of_port(input);
-    let [out, work64, work32] = input.lengths;
-    let answer = catch_unwind(AssertUnwindSafe(|| table.update(&input.boxes, out, work64, work32)));
+    let answer = catch_unwind(AssertUnwindSafe(|| table.update(&input.boxes, input.lengths)));
     let Ok(answer) = answer else {
         return Err(format!("the Rust panics, the port says {}", port.refusal));
     };
@@ -180,9 +150,9 @@ fn agree(table: &mut Table, input: &Input) -> Result<(u64, u64), String> {
 }
 
 pub fn check(case: &Case) -> Found {
-    let input = Input::read(case);
+    let input = read(case);
     match agree(&mut input.table(), &input) {
-        Err(what) if !input.finite() => {
+        Err(what) if !finite(&input) => {
             println!("{what}; not every value is finite, so nothing is asked");
             Ok(0)
         }
@@ -197,32 +167,19 @@ pub fn frame(table: &mut Table, boxes: &[f32], lengths: [usize; 3], report: &mut
     let input = Input::new(table, boxes, lengths);
     let found = caught(|| agree(table, &input));
     let same = found.is_ok();
-    if !same && !input.finite() {
+    if !same && !finite(&input) {
         report.not_finite += 1;
     } else {
         report.turned += found.as_ref().is_ok_and(|answered| answered.1 > 0) as u64;
-        report.judge(found.map(|answered| answered.0), || input.case());
+        report.judge(found.map(|answered| answered.0), || case("frames", &input));
     }
     same
-}
-
-/// What output and work slices have to have.
-pub fn needed(held: usize, boxes: usize) -> [usize; 3] {
-    let n = held.max(boxes);
-    [32 * (held + boxes), n * n, 4 * n * n]
-}
-
-/// That and up to two more, or one less where the frame is to be refused for it.
-fn lengths(scene: &Scene, f: usize, held: usize, boxes: usize) -> [usize; 3] {
-    let (needed, short) = (needed(held, boxes), scene.damaged(f));
-    let more = [f % 3, f % 2, (f + 1) % 3];
-    std::array::from_fn(|k| if short == k + 2 && needed[k] > 0 { needed[k] - 1 } else { needed[k] + more[k] })
 }
 
 fn play(scene: &mut Scene, table: &mut Table, report: &mut Report) -> bool {
     (0..scene.frames).all(|f| {
         let boxes = scene.boxes(f);
-        let lengths = lengths(scene, f, table.state.count as usize, boxes.len() / 5);
+        let lengths = scene.lengths(f, table.state.count as usize, boxes.len() / 5);
         frame(table, &boxes, lengths, report)
     })
 }
@@ -234,8 +191,7 @@ fn scene(random: &Random, report: &mut Report) {
     if random.one_in(2) {
         scene.settings = tables::settings(random);
     }
-    let (state, floats, counters) = scene.start();
-    let mut table = Table::new(scene.settings, state, floats, counters);
+    let mut table = scene.start();
     play(&mut scene, &mut table, report);
 }
 

@@ -2,9 +2,9 @@
 
 use crate::case::Case;
 use crate::lent::Lent;
-use crate::matrices;
+use oracle::matrices;
 use crate::port;
-use crate::random::Random;
+use oracle::random::Random;
 use crate::report::{Found, Report, caught};
 use jamtrack_rs::counters;
 

@@ -1,59 +1,33 @@
 //! Runs the port beside the published Rust on random inputs. oracle/compare builds and calls it:
 //!
-//!     beside FOLDER TRACKBOX [--seed S] [--minutes M] [--inputs N] [--first] [--all] [--replay FILE] [KIND ..]
+//!     beside FOLDER TRACKBOX BOOSTS [--seed S] [--minutes M] [--inputs N] [--first] [--all] [--replay FILE] [KIND ..]
 //!
-//! FOLDER is where differences are written, TRACKBOX the program.
+//! FOLDER is where differences are written; TRACKBOX and BOOSTS are the programs trackbox and boosts_vectors.
 
-#[allow(dead_code)]
-#[path = "../assoc/call.rs"]
-mod call;
+mod boosts;
 mod case;
-#[allow(dead_code)]
-#[path = "../boost_tracker/digest.rs"]
-mod digest;
 mod floats;
-#[allow(dead_code)]
-#[path = "../boost_tracker/frame.rs"]
-mod frame;
 mod frames;
-#[allow(dead_code)]
-#[path = "../assoc/inputs.rs"]
-mod inputs;
 mod lapjv;
 mod lent;
-#[allow(dead_code)]
-#[path = "../lapjv/matrices.rs"]
-mod matrices;
 mod pairing;
-#[allow(dead_code)]
-#[path = "../../bench/plain.rs"]
-mod plain;
 mod port;
-mod random;
+mod program;
 mod report;
-#[path = "../trackbox/rules.rs"]
-mod rules;
-#[allow(dead_code)]
-#[path = "../boost_tracker/scenes.rs"]
-mod scenes;
 mod strack;
 mod streams;
-mod tables;
-#[path = "../boost_tracker/verdict.rs"]
-mod verdict;
 
 use case::Case;
-use jamtrack_rs::boost_tracker::assoc;
-use jamtrack_rs::counters;
-use random::Random;
+use oracle::random::Random;
 use report::{Found, Report, caught};
 use std::time::{Duration, Instant};
 
-const KINDS: [&str; 6] = ["floats", "lapjv", "assoc", "strack", "frames", "streams"];
+const KINDS: [&str; 7] = ["floats", "lapjv", "assoc", "strack", "boosts", "frames", "streams"];
 
 struct Wanted {
     folder: String,
-    program: String,
+    trackbox: String,
+    boosts: String,
     seed: u64,
     /// For all kinds together.
     minutes: f64,
@@ -77,10 +51,11 @@ fn stop<T>(message: &str) -> T {
 
 fn wanted() -> Wanted {
     let mut words = std::env::args().skip(1);
-    let (folder, program) = (words.next().expect("a folder"), words.next().expect("a program"));
+    let mut named = |what: &str| words.next().expect(what);
+    let (folder, trackbox, boosts) = (named("a folder"), named("a program"), named("a program"));
     let (seed, minutes, inputs) = (1, 1.0, u64::MAX);
     let mut wanted =
-        Wanted { folder, program, seed, minutes, inputs, first: false, all: false, replay: None, kinds: vec![] };
+        Wanted { folder, trackbox, boosts, seed, minutes, inputs, first: false, all: false, replay: None, kinds: vec![] };
     while let Some(word) = words.next() {
         match word.as_str() {
             "--seed" => wanted.seed = number(words.next()),
@@ -102,14 +77,15 @@ fn wanted() -> Wanted {
 }
 
 /// One draw of a kind: a call, a stream, or a scene of frames.
-fn draw(kind: &str, random: &Random, program: &str, report: &mut Report) {
+fn draw(kind: &str, random: &Random, wanted: &Wanted, report: &mut Report) {
     match kind {
         "floats" => floats::run(random, report),
         "lapjv" => lapjv::run(random, report),
         "assoc" => pairing::run(random, report),
         "strack" => strack::run(random, report),
+        "boosts" => boosts::run(random, &wanted.boosts, report),
         "frames" => frames::run(random, report),
-        _ => streams::run(random, program, report),
+        _ => streams::run(random, &wanted.trackbox, report),
     }
 }
 
@@ -122,20 +98,21 @@ fn run(kind: &'static str, wanted: &Wanted) -> Report {
         floats::all(&mut report);
     }
     while start.elapsed() < share && report.inputs() < wanted.inputs && !(wanted.first && report.failed > 0) {
-        draw(kind, &random, &wanted.program, &mut report);
+        draw(kind, &random, wanted, &mut report);
     }
     report
 }
 
-fn replay(file: &str, program: &str) -> Found {
+fn replay(file: &str, wanted: &Wanted) -> Found {
     let case = Case::read(&std::fs::read_to_string(file).map_err(|error| format!("{file}: {error}"))?);
     caught(|| match case.kind.as_str() {
         "floats" => floats::check(&case),
         "lapjv" => lapjv::check(&case),
         "assoc" => pairing::check(&case),
         "strack" => strack::check(&case),
+        "boosts" => boosts::check(&case, &wanted.boosts),
         "frames" => frames::check(&case),
-        _ => streams::check(&case, program),
+        _ => streams::check(&case, &wanted.trackbox),
     })
 }
 
@@ -145,7 +122,7 @@ fn main() {
     std::panic::set_hook(Box::new(|_| {}));
     let (mut passed, mut failed) = (0, 0);
     if let Some(file) = &wanted.replay {
-        let found = replay(file, &wanted.program);
+        let found = replay(file, &wanted);
         println!("{}", found.as_ref().err().map_or("equal as far as is asked", |what| what));
         (passed, failed) = (found.is_ok() as u64, found.is_err() as u64);
     } else {

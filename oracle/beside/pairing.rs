@@ -1,12 +1,12 @@
 //! The pairing: each routine of the port beside the published assoc.rs, with counts and every lent cell.
 
-use crate::call::{self, Answer, CELL, Call, LIST, WORK};
+use oracle::call::{self, Answer, CELL, Call, LIST, WORK};
 use crate::case::Case;
-use crate::digest::bits;
-use crate::inputs;
+use oracle::digest::bits;
+use oracle::inputs;
 use crate::lent::Lent;
 use crate::port::{self, OfCorners};
-use crate::random::Random;
+use oracle::random::Random;
 use crate::report::{Found, Report, caught};
 
 /// What stands beside lent floats, lists and doubles.

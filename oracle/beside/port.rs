@@ -1,6 +1,6 @@
 //! The port, as include/bedside.h declares it.
 
-use crate::verdict::State;
+use oracle::verdict::State;
 
 #[repr(C)]
 pub struct Lapjv {

@@ -77,7 +77,11 @@ impl Report {
 
     pub fn line(&self) -> String {
         let Report { kind, passed, failed, not_finite, turned, .. } = self;
-        let besides = format!(", {not_finite} not finite; with row turns: {turned}");
-        format!("{kind}: {passed} passed, {failed} failed{}", if *kind == "frames" { &besides } else { "" })
+        let besides = match *kind {
+            "frames" => format!(", {not_finite} not finite; with row turns: {turned}"),
+            "boosts" => format!(", {not_finite} not finite"),
+            _ => String::new(),
+        };
+        format!("{kind}: {passed} passed, {failed} failed{besides}")
     }
 }

@@ -2,10 +2,10 @@
 //! kalman_filter.rs and strack.rs while every value of the formulas is finite.
 
 use crate::case::Case;
-use crate::digest::bits;
+use oracle::digest::bits;
 use crate::lent::Lent;
 use crate::port::{self, Pair};
-use crate::random::Random;
+use oracle::random::Random;
 use crate::report::{Found, Report, caught};
 use jamtrack_rs::boost_tracker::strack::inside::{self, Track};
 use jamtrack_rs::boost_tracker::strack::{convert_bbox_to_z, convert_z_to_bbox};

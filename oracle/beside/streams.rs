@@ -1,12 +1,11 @@
 //! Streams: the program trackbox beside the published tracker and the scope document's rules, every byte it prints.
 
 use crate::case::Case;
-use crate::random::Random;
+use oracle::random::Random;
+use crate::program::printed;
 use crate::report::{Found, Report, caught};
-use crate::rules;
-use crate::scenes;
-use std::io::Write;
-use std::process::{Command, Stdio};
+use oracle::rules;
+use oracle::scenes;
 
 /// A record: frame, then left, top, width, height, score.
 type Record = (u32, [f32; 5]);
@@ -17,20 +16,6 @@ fn bytes_of(records: &[Record]) -> Vec<u8> {
 }
 
 // ---- both programs
-
-/// What the program prints for a stream that comes in pieces, and whether it ended by itself.
-fn printed(program: &str, bytes: &[u8], piece: usize) -> (String, bool) {
-    let mut command = Command::new(program);
-    let command = command.stdin(Stdio::piped()).stdout(Stdio::piped()).stderr(Stdio::null());
-    let mut child = command.spawn().expect("the program trackbox");
-    let mut input = child.stdin.take().expect("its standard input");
-    let text = std::thread::scope(|scope| {
-        // A program that stops early closes the pipe: what is left need not be read.
-        scope.spawn(move || bytes.chunks(piece).try_for_each(|part| input.write_all(part)));
-        child.wait_with_output().expect("its standard output")
-    });
-    (String::from_utf8_lossy(&text.stdout).into_owned(), text.status.code().is_some())
-}
 
 fn agree(program: &str, bytes: &[u8], piece: usize) -> Found {
     let (port, ended) = printed(program, bytes, piece);

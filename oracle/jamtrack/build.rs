@@ -1,7 +1,9 @@
 //! Puts the published files in their places, changed by the lists of this folder, and what is ours beside them.
 
 fn main() {
-    sources::take("boost_tracker/boost_tracker.rs", "jamtrack/boost_tracker.list");
+    let tracker = sources::published("boost_tracker/boost_tracker.rs");
+    let ruled = sources::substituted(&tracker, "jamtrack/boost_tracker.list");
+    sources::put(&sources::substituted(&ruled, "jamtrack/stages.list"), "boost_tracker/boost_tracker.rs");
     sources::take("boost_tracker/assoc.rs", "jamtrack/assoc.list");
     sources::take("boost_tracker/strack.rs", "jamtrack/strack.list");
     sources::take("boost_tracker/kalman_filter.rs", "jamtrack/kalman_filter.list");

@@ -4,6 +4,8 @@
 
 pub extern crate floats;
 
+pub mod stages;
+
 include!(concat!(env!("OUT_DIR"), "/modules.rs"));
 
 /// `lapjv`, which the crate keeps to itself.

@@ -3,25 +3,16 @@
 //!
 //!     search [SECONDS]    for each side from 2 to 8; 10 without it
 
-#[allow(dead_code)]
-#[path = "../jamtrack/counters.rs"]
-mod counters;
-mod error;
-#[allow(dead_code)]
-mod matrices;
-#[allow(warnings)]
-mod lapjv {
-    include!(concat!(env!("OUT_DIR"), "/counted.rs"));
-}
-
-use counters::Counts;
+use jamtrack_rs::counters::{self, Counts};
+use oracle::digest::next;
+use oracle::matrices;
 use std::time::{Duration, Instant};
 
 struct Random(u64);
 
 impl Random {
     fn below(&mut self, most: u64) -> u64 {
-        self.0 = matrices::next(self.0);
+        self.0 = next(self.0);
         (self.0 >> 11) % most
     }
 
@@ -42,7 +33,7 @@ impl Random {
 
 fn counted(n: usize, cost: &[f64]) -> Counts {
     counters::take();
-    lapjv::lapjv(&mut matrices::rows(n, cost), &mut vec![-1; n], &mut vec![-1; n]).expect("an assignment");
+    jamtrack_rs::assign(&mut matrices::rows(n, cost), &mut vec![-1; n], &mut vec![-1; n]).expect("an assignment");
     counters::take()
 }
 

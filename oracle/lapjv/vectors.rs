@@ -1,16 +1,8 @@
 //! Prints what crates/lapjv_vectors has to print: the published lapjv.rs, with its two counts, on the same matrices;
 //! and for the calls that the port turns down, the numbers of the scope document.
 
-#[allow(dead_code)]
-#[path = "../jamtrack/counters.rs"]
-mod counters;
-mod error;
-#[allow(dead_code)]
-mod matrices;
-#[allow(warnings)]
-mod lapjv {
-    include!(concat!(env!("OUT_DIR"), "/counted.rs"));
-}
+use jamtrack_rs::counters;
+use oracle::matrices;
 
 fn line(head: String, answer: [u64; 3], x: &[isize], y: &[isize]) {
     let words = |s: &[isize]| s.iter().map(|k| format!(" {k}")).collect::<String>();
@@ -21,7 +13,7 @@ fn replay(kind: &str, n: usize) {
     let cost = matrices::matrix(kind, n);
     let (mut x, mut y) = (vec![-1; n], vec![-1; n]);
     counters::take();
-    lapjv::lapjv(&mut matrices::rows(n, &cost), &mut x, &mut y).expect("an assignment");
+    jamtrack_rs::assign(&mut matrices::rows(n, &cost), &mut x, &mut y).expect("an assignment");
     let counts = counters::take();
     line(format!("{kind} {n} {:016x}", matrices::digest(&cost)), [0, counts.turns, counts.scans], &x, &y);
 }

@@ -1,8 +1,6 @@
 //! Counts where the platform's float functions, which the published Rust calls, differ from the scope document's.
 
-#[allow(dead_code)]
-#[path = "../../bench/plain.rs"]
-mod plain;
+use recipes as plain;
 
 use std::hint::black_box;
 

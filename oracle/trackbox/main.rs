@@ -4,21 +4,8 @@
 //!     list           a line for each stream
 //!     streams DIR    writes each stream to DIR/NAME.boxes and what has to be printed for it to DIR/NAME.lines
 
-#[path = "../boost_tracker/digest.rs"]
-#[allow(dead_code)]
-mod digest;
-#[path = "../boost_tracker/frame.rs"]
-#[allow(dead_code)]
-mod frame;
-mod rules;
-#[path = "../boost_tracker/scenes.rs"]
-#[allow(dead_code)]
-mod scenes;
-mod streams;
-#[path = "../boost_tracker/verdict.rs"]
-mod verdict;
-
-use digest::Digest;
+use oracle::digest::Digest;
+use oracle::{rules, streams};
 use std::io::Read;
 
 /// The stream's bytes and their digest, the printed lines and their digest, and the last line.

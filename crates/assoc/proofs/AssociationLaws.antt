@@ -17,22 +17,22 @@ use Rattle.laws.specs.Splice.{mid-splice}
 use Rattle.laws.specs.Most.{greater, greater-left, greater-right}
 use Rattle.laws.specs.Grid.{cellAt, grid, grid-at, grid-ext, grid-whole, length-grid, row-ends}
 use Rattle.floats.specs.Single.{one, zero}
-use Rattle.similarity.specs.declared.cost.AssociateParams.{AssociateParams}
-use Rattle.similarity.specs.declared.refusal.Verdict.{Verdict}
-use Rattle.similarity.specs.declared.refusal.Verdict.the-variants.{Accepted}
-use Rattle.similarity.specs.Refusal.{tooMany}
-use Rattle.similarity.specs.Sizes.{ofCorners, ofCells, ofDistances, after}
-use Rattle.similarity.specs.Overlap.{boxAt, iouBatch}
-use Rattle.similarity.specs.Mahalanobis.{mhDistSimilarity}
-use Rattle.similarity.specs.Cost.{costMatrix}
-use Rattle.similarity.specs.Laws.{passed, few-sides, same-size, cost-ext}
-use Rattle.matching.specs.declared.assignment.AssignmentAnswer.{AssignmentAnswer}
-use Rattle.matching.specs.Matching.{matchDetections}
-use Rattle.matching.specs.Assignment.{assignment, validated, linearAssignment}
-use Rattle.matching.specs.Answers.{assignmentShort, assignmentVerdict, AssignmentEnds}
+use Rattle.assoc_similarity.specs.declared.cost.AssociateParams.{AssociateParams}
+use Rattle.assoc_similarity.specs.declared.refusal.Verdict.{Verdict}
+use Rattle.assoc_similarity.specs.declared.refusal.Verdict.the-variants.{Accepted}
+use Rattle.assoc_similarity.specs.Refusal.{tooMany}
+use Rattle.assoc_similarity.specs.Sizes.{ofCorners, ofCells, ofDistances, after}
+use Rattle.assoc_similarity.specs.Overlap.{boxAt, iouBatch}
+use Rattle.assoc_similarity.specs.Mahalanobis.{mhDistSimilarity}
+use Rattle.assoc_similarity.specs.Cost.{costMatrix}
+use Rattle.assoc_similarity.proofs.Laws.{passed, few-sides, same-size, cost-ext}
+use Rattle.assoc_matching.specs.declared.assignment.AssignmentAnswer.{AssignmentAnswer}
+use Rattle.assoc_matching.specs.Matching.{matchDetections}
+use Rattle.assoc_matching.specs.Assignment.{assignment, validated, linearAssignment}
+use Rattle.assoc_matching.specs.Answers.{assignmentShort, assignmentVerdict, AssignmentEnds}
 use Rattle.assoc.specs.Association.{ious, costs, associate}
 use Rattle.assoc.specs.Answers.{otherSize, associateShort, withinVerdict, associateVerdict, cleared}
-use Rattle.assoc.specs.AssociationSteps.{Cornered, Likened, Halves, PairedUp}
+use Rattle.assoc.specs.Private.{Cornered, Likened, Halves, PairedUp}
 
 -- ---- the verdict
 

@@ -7,22 +7,22 @@ use lib.Ieee.{Float, nan, binary32, ofBits}
 use lib.ListN.{length}
 use Rattle.laws.specs.Tab.{tab}
 use Rattle.laws.specs.Grid.{cellAt}
-use Rattle.similarity.specs.declared.cost.AssociateParams.{AssociateParams}
-use Rattle.similarity.specs.declared.refusal.Refusal.{Refusal}
-use Rattle.similarity.specs.declared.refusal.Verdict.{Verdict}
-use Rattle.similarity.specs.declared.refusal.Verdict.the-variants.{Accepted, Refused}
-use Rattle.similarity.specs.Refusal.{verdictNumber}
-use Rattle.similarity.specs.Overlap.{iouBatch}
-use Rattle.similarity.specs.Cost.{costMatrix}
-use Rattle.similarity.specs.Laws.{accepted-of}
-use Rattle.matching.specs.declared.assignment.AssignmentAnswer.{AssignmentAnswer}
-use Rattle.matching.specs.declared.assignment.AssignmentAnswer.the-variants as assignment-answer
-use Rattle.matching.specs.Assignment.{Assignment, linearAssignment}
-use Rattle.matching.specs.Account.{Accounted}
-use Rattle.matching.specs.Answers.{assignmentVerdict, assignmentNumber, AssignmentLeaves}
+use Rattle.assoc_similarity.specs.declared.cost.AssociateParams.{AssociateParams}
+use Rattle.assoc_similarity.specs.declared.refusal.Refusal.{Refusal}
+use Rattle.assoc_similarity.specs.declared.refusal.Verdict.{Verdict}
+use Rattle.assoc_similarity.specs.declared.refusal.Verdict.the-variants.{Accepted, Refused}
+use Rattle.assoc_similarity.specs.Refusal.{verdictNumber}
+use Rattle.assoc_similarity.specs.Overlap.{iouBatch}
+use Rattle.assoc_similarity.specs.Cost.{costMatrix}
+use Rattle.assoc_similarity.proofs.Laws.{accepted-of}
+use Rattle.assoc_matching.specs.declared.assignment.AssignmentAnswer.{AssignmentAnswer}
+use Rattle.assoc_matching.specs.declared.assignment.AssignmentAnswer.the-variants as assignment-answer
+use Rattle.assoc_matching.specs.Assignment.{Assignment, linearAssignment}
+use Rattle.assoc_matching.specs.Account.{Accounted}
+use Rattle.assoc_matching.specs.Answers.{assignmentVerdict, assignmentNumber, AssignmentLeaves}
 use Rattle.assoc.specs.Association.{ious, costs, associate}
 use Rattle.assoc.specs.Answers.{AssociateEnds}
-use Rattle.assoc.specs.AssociationSteps.{Likened, PairedUp}
+use Rattle.assoc.specs.Private.{Likened, PairedUp}
 use Rattle.assoc.proofs.AssociationLaws.{length-matrix, associate-is}
 
 not-both : {v : Verdict} {why : Refusal} → v ≡ Refused why → v ≡ Accepted → ⊥

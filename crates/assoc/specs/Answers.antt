@@ -8,14 +8,14 @@ use lib.Ieee.{Float, binary32, ofBits}
 use lib.ListN.{length}
 use Rattle.laws.specs.Tab.{tab}
 use Rattle.laws.specs.Most.{greater}
-use Rattle.similarity.specs.declared.refusal.Verdict.{Verdict}
-use Rattle.similarity.specs.declared.refusal.Verdict.the-variants.{Accepted, Refused}
-use Rattle.similarity.specs.declared.cost.AssociateParams.{AssociateParams}
-use Rattle.similarity.specs.Refusal.{verdictNumber, tooMany, verdict}
-use Rattle.matching.specs.declared.assignment.AssignmentAnswer.{AssignmentAnswer}
-use Rattle.matching.specs.Assignment.{Assignment}
-use Rattle.matching.specs.Account.{Accounted}
-use Rattle.matching.specs.Answers.{assignmentShort, assignmentNumber, AssignmentLeaves}
+use Rattle.assoc_similarity.specs.declared.refusal.Verdict.{Verdict}
+use Rattle.assoc_similarity.specs.declared.refusal.Verdict.the-variants.{Accepted, Refused}
+use Rattle.assoc_similarity.specs.declared.cost.AssociateParams.{AssociateParams}
+use Rattle.assoc_similarity.specs.Refusal.{verdictNumber, tooMany, verdict}
+use Rattle.assoc_matching.specs.declared.assignment.AssignmentAnswer.{AssignmentAnswer}
+use Rattle.assoc_matching.specs.Assignment.{Assignment}
+use Rattle.assoc_matching.specs.Account.{Accounted}
+use Rattle.assoc_matching.specs.Answers.{assignmentShort, assignmentNumber, AssignmentLeaves}
 
 -- corners or confidences of another size, from their lengths
 abbrev pub otherSize : AssociateParams → ℕ → ℕ → ℕ → ℕ → ℕ → ℕ → Bool

@@ -5,22 +5,22 @@ ghost use Prim.Native.Nat.{_*_, _≤_};
 ghost use lib.ListN.{length, take, drop};
 ghost use lib.Ieee.{nan};
 ghost use Rattle.laws.specs.Grid.{cellAt};
-ghost use Rattle.matching.specs.Answers.{AssignmentEnds};
+ghost use Rattle.assoc_matching.specs.Answers.{AssignmentEnds};
 ghost use Rattle.assoc.specs.Association.{ious, costs};
 ghost use Rattle.assoc.specs.Association as Association;
 ghost use Rattle.assoc.specs.Answers.{otherSize, withinVerdict, associateVerdict, cleared, AssociateEnds};
-ghost use Rattle.assoc.specs.AssociationSteps.{Cornered, Likened, Halves, PairedUp};
-use matching::AssignmentAnswer;
-use matching::assignment_verdict;
-use matching::larger;
-use matching::linear_assignment;
-use similarity::AssociateParams;
-use similarity::Refusal;
-use similarity::Verdict;
-use similarity::associate_cost;
-use similarity::iou_batch;
-use similarity::mh_dist_similarity;
-use similarity::mh_dist_similarity_over;
+ghost use Rattle.assoc.specs.Private.{Cornered, Likened, Halves, PairedUp};
+use assoc_matching::AssignmentAnswer;
+use assoc_matching::assignment_verdict;
+use assoc_matching::larger;
+use assoc_matching::linear_assignment;
+use assoc_similarity::AssociateParams;
+use assoc_similarity::Refusal;
+use assoc_similarity::Verdict;
+use assoc_similarity::associate_cost;
+use assoc_similarity::iou_batch;
+use assoc_similarity::mh_dist_similarity;
+use assoc_similarity::mh_dist_similarity_over;
 
 // ---- refusals
 

@@ -1,191 +1,124 @@
-// Replays fixed calls of the pairing routines and prints a line for each: routine, kind of inputs, sides, digest
-// of the inputs; refusal and counts; the lists, or a small matrix; a digest of every cell that was lent. The
-// file stdout has the lines that the published assoc.rs and lapjv.rs give on the same inputs
-// (oracle/assoc/run).
-ghost use Prim.Native.Nat.{_+_, _≤_};
-
-mod association;
-mod inputs;
-mod matrices;
+// Replays the calls of standard input and prints a line for each: its title, the refusal and the counts, a digest of
+// what it was given and one of every cell that it was lent. oracle/assoc/run writes both files, stdin by its own
+// rules and stdout by the published assoc.rs and lapjv.rs.
+//
+// A record is its kind, 25 words and what follows. The kinds 0 to 7 are calls of iou_batch, soft_biou_batch,
+// shape_similarity_v1, shape_similarity_v2, mh_dist_similarity, match_detections, linear_assignment and associate. Their
+// words: boxes in two halves, tracks, flags of associate (1 distances, 2 confidences, 4 the corrected shape), threshold
+// or temperature, three weights; where the five inputs start and end among the floats that are held; the lengths lent
+// for a matrix, four lists and both work slices. The title follows.
+// 8 holds floats that follow, from a first place to a last; 9 draws them (vectors::cells): words 2 to 5 are the seed in
+// two halves, the spread and the step, and 6 to 21 the patterns.
+mod answers;
 mod pairs;
-mod refusals;
-mod text;
 
-use crate::association::Call;
-use crate::pairs::room_of;
-use crate::text::Routine;
+use assoc_similarity::Verdict;
+use vectors::digest;
+use vectors::floats::float;
+use vectors::held::hold;
+use vectors::input;
+use vectors::part::at_most;
+use vectors::part::whole;
+use vectors::text;
 
-// ---- lengths
-
-fn area(boxes: usize, tracks: usize) -> usize
-    requires { ⌜ (boxes ≤ 255) × (tracks ≤ 255) ⌝ }
-    ensures { λ r. ⌜ r ≤ 65025 ⌝ }
-{
-    boxes * tracks
+fn measure(kind: u32, w: &[u64; 25], a: &[f32], b: &[f32], c: &[f32], out: &mut [f32]) -> Verdict {
+    let boxes = whole(w[0], w[1]);
+    let tracks = w[2] as usize;
+    match kind {
+        0 => assoc_similarity::iou_batch(boxes, tracks, a, b, out),
+        1 => assoc_similarity::soft_biou_batch(boxes, tracks, a, b, c, out),
+        2 => assoc_similarity::shape_similarity_v1(boxes, tracks, a, b, out),
+        3 => assoc_similarity::shape_similarity_v2(boxes, tracks, a, b, out),
+        _ => assoc_similarity::mh_dist_similarity(boxes, tracks, a, float(w[4]), out),
+    }
 }
 
-fn larger(boxes: usize, tracks: usize) -> usize
-    requires { ⌜ (boxes ≤ 255) × (tracks ≤ 255) ⌝ }
-    ensures { λ r. ⌜ r ≤ 255 ⌝ }
-{
-    if boxes < tracks { tracks } else { boxes }
+fn measured(kind: u32, w: &[u64; 25], a: &[f32], b: &[f32], c: &[f32], out: &mut [f32]) -> u64 {
+    answers::verdict(measure(kind, w, a, b, c, out));
+    digest::floats(digest::START, out)
 }
 
-fn smaller(boxes: usize, tracks: usize) -> usize
-    requires { ⌜ (boxes ≤ 255) × (tracks ≤ 255) ⌝ }
-    ensures { λ r. ⌜ r ≤ 255 ⌝ }
-{
-    if boxes < tracks { boxes } else { tracks }
+// A matrix of 7s; the digest of all that is lent.
+fn matrix(kind: u32, w: &[u64; 25], a: &[f32], b: &[f32], c: &[f32]) -> u64 {
+    let mut out = [7.0f32; 65027];
+    let end = at_most(65027, w[18]);
+    measured(kind, w, a, b, c, &mut out[..end])
 }
 
-// How many cells a result or work slice has more than it needs.
-fn spare(boxes: usize, tracks: usize) -> usize
-    requires { ⌜ (boxes ≤ 255) × (tracks ≤ 255) ⌝ }
-    ensures { λ r. ⌜ r ≤ 2 ⌝ }
-{
-    (boxes + tracks) % 3
+fn answered(
+    kind: u32,
+    w: &[u64; 25],
+    a: &[f32],
+    b: &[f32],
+    c: &[f32],
+    d: &[f32],
+    e: &[f32],
+) -> u64 {
+    if kind < 5 {
+        return matrix(kind, w, a, b, c);
+    }
+    pairs::pairs(kind, w, a, b, c, d, e)
 }
 
-// ---- the calls that are accepted
-
-fn softened(kind: usize, boxes: usize, tracks: usize)
-    requires { ⌜ (boxes ≤ 255) × (tracks ≤ 255) ⌝ }
-{
-    let cells = area(boxes, tracks);
-    let more = spare(boxes, tracks);
-    matrices::soften(kind, boxes, tracks, cells, cells + more);
+fn called(kind: u32, w: &[u64; 25], a: &[f32], b: &[f32], c: &[f32], d: &[f32], e: &[f32]) {
+    text::bar();
+    let lent = answered(kind, w, a, b, c, d, e);
+    text::bar();
+    let boxes = digest::floats(digest::floats(digest::START, a), b);
+    text::digest(digest::floats(digest::floats(digest::floats(boxes, c), d), e));
+    text::digest(lent);
+    text::end();
 }
 
-fn matched(kind: usize, boxes: usize, tracks: usize)
-    requires { ⌜ (boxes ≤ 255) × (tracks ≤ 255) ⌝ }
-{
-    let cells = area(boxes, tracks);
-    let more = spare(boxes, tracks);
-    let few = smaller(boxes, tracks) + more;
-    let n = larger(boxes, tracks);
-    pairs::matching(kind, boxes, tracks, cells, few, few, area(n, n) + more);
-}
-
-fn assigned(kind: usize, boxes: usize, tracks: usize)
-    requires { ⌜ (boxes ≤ 255) × (tracks ≤ 255) ⌝ }
-{
-    let cells = area(boxes, tracks);
-    let more = spare(boxes, tracks);
-    let few = smaller(boxes, tracks) + more;
-    let n = larger(boxes, tracks);
-    pairs::assigning(
+fn call(kind: u32, w: &[u64; 25], held: &[f32]) {
+    let a = at_most(held.len(), w[9]);
+    let b = at_most(held.len(), w[11]);
+    let c = at_most(held.len(), w[13]);
+    let d = at_most(held.len(), w[15]);
+    let e = at_most(held.len(), w[17]);
+    let of_a = at_most(a, w[8]);
+    let of_b = at_most(b, w[10]);
+    let of_c = at_most(c, w[12]);
+    let of_d = at_most(d, w[14]);
+    let of_e = at_most(e, w[16]);
+    called(
         kind,
-        boxes,
-        tracks,
-        cells,
-        cells,
-        room_of(few, few, boxes + more, tracks + more, area(n, n) + more),
+        w,
+        &held[of_a..a],
+        &held[of_b..b],
+        &held[of_c..c],
+        &held[of_d..d],
+        &held[of_e..e],
     );
 }
 
-fn measured(routine: Routine, kind: usize, boxes: usize, tracks: usize)
-    requires { ⌜ (boxes ≤ 255) × (tracks ≤ 255) ⌝ }
-{
-    let cells = area(boxes, tracks);
-    let more = spare(boxes, tracks);
-    matrices::measure(
-        routine,
-        kind,
-        boxes,
-        tracks,
-        boxes * 4,
-        tracks * 4,
-        tracks,
-        cells + more,
-    );
-}
-
-// A slice that is not looked at has another length than the sides say.
-fn where_given(bit: usize, length: usize, other: usize) -> usize
-    requires { ⌜ other ≤ 3 ⌝ }
-    ensures { λ r. ⌜ r ≤ length + other ⌝ }
-{
-    if bit % 2 == 1 {
-        return length;
+// One record; false where there is none left.
+fn replay(held: &mut [f32; 198154]) -> bool {
+    let kind = input::word_or(10);
+    if kind > 9 {
+        return false;
     }
-    other
-}
-
-fn associated(kind: usize, boxes: usize, tracks: usize, flags: usize)
-    requires { ⌜ (boxes ≤ 255) × (tracks ≤ 255) ⌝ }
-{
-    let call = Call {
-        kind,
-        boxes,
-        tracks,
-        flags,
-    };
-    let cells = area(boxes, tracks);
-    let more = spare(boxes, tracks);
-    let few = smaller(boxes, tracks) + more;
-    let n = larger(boxes, tracks);
-    let square = area(n, n);
-    association::associating(
-        call,
-        boxes * 4,
-        tracks * 4,
-        where_given(flags, cells, 3),
-        where_given(flags / 2, tracks, 2),
-        where_given(flags / 2, boxes, 2),
-        room_of(few, few, boxes + more, tracks + more, square + more),
-        square * 4 + more,
-    );
-}
-
-fn each_flag(kind: usize, boxes: usize, tracks: usize)
-    requires { ⌜ (boxes ≤ 255) × (tracks ≤ 255) ⌝ }
-{
-    for flags in 0..8 {
-        associated(kind, boxes, tracks, flags);
+    let mut w = [0u64; 25];
+    if kind == 8 {
+        input::numbers(2, 0, &mut w);
+        hold(true, &w, held);
+        return true;
     }
-}
-
-fn of_boxes(kind: usize, boxes: usize, tracks: usize)
-    requires { ⌜ (boxes ≤ 255) × (tracks ≤ 255) ⌝ }
-{
-    measured(Routine::IouBatch, kind, boxes, tracks);
-    measured(Routine::SoftBiouBatch, kind, boxes, tracks);
-    measured(Routine::ShapeSimilarityV1, kind, boxes, tracks);
-    measured(Routine::ShapeSimilarityV2, kind, boxes, tracks);
-    each_flag(kind, boxes, tracks);
-}
-
-// Every kind has matrices; boxes have the first nine, and a third of the sides each.
-fn each_routine(kind: usize, boxes: usize, tracks: usize)
-    requires { ⌜ (kind ≤ 13) × (boxes ≤ 255) × (tracks ≤ 255) ⌝ }
-{
-    softened(kind, boxes, tracks);
-    matched(kind, boxes, tracks);
-    assigned(kind, boxes, tracks);
-    if kind < inputs::BOX_KINDS {
-        if (boxes + kind) % 3 == 0 {
-            of_boxes(kind, boxes, tracks);
-        }
+    input::numbers(25, 0, &mut w);
+    if kind == 9 {
+        hold(false, &w, held);
+        return true;
     }
+    input::title();
+    call(kind, &w, held);
+    true
 }
 
-fn each_kind(boxes: usize, tracks: usize)
-    requires { ⌜ (boxes ≤ 255) × (tracks ≤ 255) ⌝ }
-{
-    for kind in 0..inputs::KINDS {
-        each_routine(kind, boxes, tracks);
-    }
-}
-
+// A proved loop has to end, and nothing says that the input does: the count is one that no run uses up.
 fn main() {
-    for k in 0..21 {
-        each_kind(k, (k * 8 + 5) % 21);
+    let mut held = [0.0f32; 198154];
+    let mut records = u64::MAX;
+    while records > 0 && replay(&mut held) {
+        records -= 1;
     }
-    each_kind(64, 64);
-    each_kind(17, 64);
-    each_kind(64, 20);
-    each_kind(255, 255);
-    each_kind(64, 255);
-    each_kind(255, 64);
-    refusals::all();
 }

@@ -3,9 +3,9 @@ use mathlib.Core.Path.{_≡_, ap, _∙_}
 use mathlib.Core.List.{List}
 use Prim.Native.Nat.{ℕ}
 use lib.Ieee.{Float}
-use Rattle.similarity.specs.Refusal.{verdictNumber}
-use Rattle.similarity.specs.Sizes.{after}
-use Rattle.similarity.specs.declared.refusal.Verdict.{Verdict}
+use Rattle.assoc_similarity.specs.Refusal.{verdictNumber}
+use Rattle.assoc_similarity.specs.Sizes.{after}
+use Rattle.assoc_similarity.specs.declared.refusal.Verdict.{Verdict}
 use Rattle.bedside.specs.Pairs.{MatrixInC}
 
 -- r is the number of the answer w, which is the verdict v, and the slice is as w leaves it

@@ -3,9 +3,9 @@ use mathlib.Core.Path.{_≡_}
 use mathlib.Core.List.{List}
 use Prim.Native.Nat.{ℕ}
 use lib.Ieee.{Float}
-use Rattle.table.specs.Frame.{answer}
-use Rattle.table.specs.declared.settings.Settings.{Settings}
-use Rattle.table.specs.declared.sound.State.{State}
+use Rattle.boost_tracker_table.specs.Verdict.{answer}
+use Rattle.boost_tracker_table.specs.declared.settings.Settings.{Settings}
+use Rattle.boost_tracker_table.specs.declared.sound.State.{State}
 use Rattle.boost_tracker.specs.Answers.{UpdateEnds}
 use Rattle.boost_tracker.specs.declared.frame.UpdateAnswer.{UpdateAnswer}
 use Rattle.bedside.specs.declared.frame.Updated.{Updated}

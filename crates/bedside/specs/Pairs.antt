@@ -4,15 +4,15 @@ use mathlib.Core.List.{List}
 use Prim.Native.Nat.{ℕ}
 use lib.Ieee.{Float}
 use lib.ListN.{length}
-use Rattle.similarity.specs.Refusal.{verdictNumber}
-use Rattle.similarity.specs.Sizes.{after}
-use Rattle.similarity.specs.declared.refusal.Verdict.{Verdict}
-use Rattle.similarity.specs.declared.cost.AssociateParams.{AssociateParams}
+use Rattle.assoc_similarity.specs.Refusal.{verdictNumber}
+use Rattle.assoc_similarity.specs.Sizes.{after}
+use Rattle.assoc_similarity.specs.declared.refusal.Verdict.{Verdict}
+use Rattle.assoc_similarity.specs.declared.cost.AssociateParams.{AssociateParams}
 use Rattle.assoc.specs.Association.{ious, associate}
-use Rattle.matching.specs.Answers.{matchNumber, matchValues, MatchEnds, assignmentNumber, assignmentValues, AssignmentEnds}
+use Rattle.assoc_matching.specs.Answers.{matchNumber, matchValues, MatchEnds, assignmentNumber, assignmentValues, AssignmentEnds}
 use Rattle.assoc.specs.Answers.{associateVerdict, AssociateEnds}
-use Rattle.matching.specs.declared.matching.MatchAnswer.{MatchAnswer}
-use Rattle.matching.specs.declared.assignment.AssignmentAnswer.{AssignmentAnswer}
+use Rattle.assoc_matching.specs.declared.matching.MatchAnswer.{MatchAnswer}
+use Rattle.assoc_matching.specs.declared.assignment.AssignmentAnswer.{AssignmentAnswer}
 use Rattle.bedside.specs.declared.pairs.Matched.{Matched}
 use Rattle.bedside.specs.declared.pairs.Assignment.{Assignment}
 
@@ -32,7 +32,7 @@ pub record MatchInC (boxes tracks : ℕ) (cost : List Float) (threshold : Float)
 
 abbrev pub assignmentInC : AssignmentAnswer → Assignment
 assignmentInC a =
-    record { refusal = assignmentNumber a; pairs = assignmentValues a .pairs; detections = assignmentValues a .detections; tracks = assignmentValues a .tracks; turns = assignmentValues a .turns; scans = assignmentValues a .scans }
+    record { refusal = assignmentNumber a; pairs = assignmentValues a .pairs; «unmatched_detections» = assignmentValues a .detections; «unmatched_tracks» = assignmentValues a .tracks; turns = assignmentValues a .turns; scans = assignmentValues a .scans }
 
 -- r is in C's form what `linear_assignment` answers, and the slices are as it leaves them
 pub record AssignmentInC (boxes tracks : ℕ) (iou cost : List Float) (threshold : Float) (pairBoxes pairTracks unmatchedDetections unmatchedTracks : List ℕ) (work : List Float)

@@ -1,16 +1,16 @@
 // The pairing.
 use assoc::AssignmentAnswer;
 use assoc::MatchAnswer;
-use similarity::AssociateParams;
-use similarity::Refusal;
-use similarity::Verdict;
+use assoc_similarity::AssociateParams;
+use assoc_similarity::Refusal;
+use assoc_similarity::Verdict;
 ghost use mathlib.Core.Path.{_≡_};
 ghost use lib.ListN.{length};
-ghost use Rattle.similarity.specs.Refusal as Refusals;
-ghost use Rattle.similarity.specs.Sizes.{ofCorners, ofConfidences, ofDistances};
-ghost use Rattle.similarity.specs.Overlap.{iouBatch, softBiouBatch};
-ghost use Rattle.similarity.specs.Shape.{shapeSimilarityV1, shapeSimilarityV2};
-ghost use Rattle.similarity.specs.Mahalanobis.{mhDistSimilarity};
+ghost use Rattle.assoc_similarity.specs.Refusal as Refusals;
+ghost use Rattle.assoc_similarity.specs.Sizes.{ofCorners, ofConfidences, ofDistances};
+ghost use Rattle.assoc_similarity.specs.Overlap.{iouBatch, softBiouBatch};
+ghost use Rattle.assoc_similarity.specs.Shape.{shapeSimilarityV1, shapeSimilarityV2};
+ghost use Rattle.assoc_similarity.specs.Mahalanobis.{mhDistSimilarity};
 ghost use Rattle.bedside.specs.Pairs.{MatrixInC, matchedInC, MatchInC, assignmentInC, AssignmentInC, AssociateInC};
 
 #[repr(C)]
@@ -25,8 +25,8 @@ pub struct Matched {
 pub struct Assignment {
     pub refusal: u32,
     pub pairs: u64,
-    pub detections: u64,
-    pub tracks: u64,
+    pub unmatched_detections: u64,
+    pub unmatched_tracks: u64,
     pub turns: u64,
     pub scans: u64,
 }
@@ -78,16 +78,16 @@ fn of_assignment(a: AssignmentAnswer) -> Assignment
         AssignmentAnswer::Assigned(c) => Assignment {
             refusal: 0,
             pairs: c.pairs as u64,
-            detections: c.detections as u64,
-            tracks: c.tracks as u64,
+            unmatched_detections: c.detections as u64,
+            unmatched_tracks: c.tracks as u64,
             turns: c.turns as u64,
             scans: c.scans as u64,
         },
         AssignmentAnswer::Refused(why) => Assignment {
             refusal: number(why),
             pairs: 0,
-            detections: 0,
-            tracks: 0,
+            unmatched_detections: 0,
+            unmatched_tracks: 0,
             turns: 0,
             scans: 0,
         },
@@ -106,7 +106,7 @@ pub extern "C" fn bedside_iou_batch(
 ) -> u32
     ensures { λ r. ⌜ MatrixInC (ofCorners boxes tracks (length (now (detections .entry))) (length (now (corners .entry))) (length (now (out .entry)))) (iouBatch (now (detections .entry)) (now (corners .entry))) boxes tracks (now (out .entry)) r (now (out .exit)) ⌝ }
 {
-    of_verdict(similarity::iou_batch(boxes, tracks, detections, corners, out))
+    of_verdict(assoc_similarity::iou_batch(boxes, tracks, detections, corners, out))
 }
 
 #[no_mangle]
@@ -115,12 +115,19 @@ pub extern "C" fn bedside_soft_biou_batch(
     tracks: usize,
     detections: &[f32],
     corners: &[f32],
-    confidences: &[f32],
+    track_confidences: &[f32],
     out: &mut [f32],
 ) -> u32
-    ensures { λ r. ⌜ MatrixInC (ofConfidences boxes tracks (length (now (detections .entry))) (length (now (corners .entry))) (length (now (confidences .entry))) (length (now (out .entry)))) (softBiouBatch (now (detections .entry)) (now (corners .entry)) (now (confidences .entry))) boxes tracks (now (out .entry)) r (now (out .exit)) ⌝ }
+    ensures { λ r. ⌜ MatrixInC (ofConfidences boxes tracks (length (now (detections .entry))) (length (now (corners .entry))) (length (now («track_confidences» .entry))) (length (now (out .entry)))) (softBiouBatch (now (detections .entry)) (now (corners .entry)) (now («track_confidences» .entry))) boxes tracks (now (out .entry)) r (now (out .exit)) ⌝ }
 {
-    of_verdict(similarity::soft_biou_batch(boxes, tracks, detections, corners, confidences, out))
+    of_verdict(assoc_similarity::soft_biou_batch(
+        boxes,
+        tracks,
+        detections,
+        corners,
+        track_confidences,
+        out,
+    ))
 }
 
 #[no_mangle]
@@ -133,7 +140,7 @@ pub extern "C" fn bedside_shape_similarity_v1(
 ) -> u32
     ensures { λ r. ⌜ MatrixInC (ofCorners boxes tracks (length (now (detections .entry))) (length (now (corners .entry))) (length (now (out .entry)))) (shapeSimilarityV1 (now (detections .entry)) (now (corners .entry))) boxes tracks (now (out .entry)) r (now (out .exit)) ⌝ }
 {
-    of_verdict(similarity::shape_similarity_v1(boxes, tracks, detections, corners, out))
+    of_verdict(assoc_similarity::shape_similarity_v1(boxes, tracks, detections, corners, out))
 }
 
 #[no_mangle]
@@ -146,7 +153,7 @@ pub extern "C" fn bedside_shape_similarity_v2(
 ) -> u32
     ensures { λ r. ⌜ MatrixInC (ofCorners boxes tracks (length (now (detections .entry))) (length (now (corners .entry))) (length (now (out .entry)))) (shapeSimilarityV2 (now (detections .entry)) (now (corners .entry))) boxes tracks (now (out .entry)) r (now (out .exit)) ⌝ }
 {
-    of_verdict(similarity::shape_similarity_v2(boxes, tracks, detections, corners, out))
+    of_verdict(assoc_similarity::shape_similarity_v2(boxes, tracks, detections, corners, out))
 }
 
 #[no_mangle]
@@ -154,12 +161,12 @@ pub extern "C" fn bedside_mh_dist_similarity(
     boxes: usize,
     tracks: usize,
     distance: &[f32],
-    temperature: f32,
+    softmax_temp: f32,
     out: &mut [f32],
 ) -> u32
-    ensures { λ r. ⌜ MatrixInC (ofDistances boxes tracks (length (now (distance .entry))) (length (now (out .entry)))) (mhDistSimilarity (now (distance .entry)) temperature boxes tracks) boxes tracks (now (out .entry)) r (now (out .exit)) ⌝ }
+    ensures { λ r. ⌜ MatrixInC (ofDistances boxes tracks (length (now (distance .entry))) (length (now (out .entry)))) (mhDistSimilarity (now (distance .entry)) «softmax_temp» boxes tracks) boxes tracks (now (out .entry)) r (now (out .exit)) ⌝ }
 {
-    of_verdict(similarity::mh_dist_similarity(boxes, tracks, distance, temperature, out))
+    of_verdict(assoc_similarity::mh_dist_similarity(boxes, tracks, distance, softmax_temp, out))
 }
 
 // ---- pairs

@@ -6,22 +6,23 @@ use native.Mathlib.Nat.{min-eq-left}
 use native.Mathlib.Omega.{arith}
 use lib.ListN.{length}
 use lib.Ieee.{Float}
-use Rattle.table.specs.declared.refusal.Refusal.{Refusal}
-use Rattle.table.specs.declared.refusal.Verdict.{Verdict}
-use Rattle.table.specs.declared.refusal.Verdict.the-variants.{Accepted, Refused}
-use Rattle.table.specs.declared.settings.Settings.{Settings}
-use Rattle.table.specs.declared.sound.State.{State}
-use Rattle.table.specs.Table.{Track, capacity, tracks, Laying}
-use Rattle.table.specs.Laws.{lay-tracks, lay-finished}
-use Rattle.table.specs.Frame.{boxesIn, answer, verdict}
-use Rattle.table.specs.Ready.{Ready, ready}
+use Rattle.records.specs.TrackRecord.{trackBytes}
+use Rattle.boost_tracker_table.specs.declared.refusal.Refusal.{Refusal}
+use Rattle.boost_tracker_table.specs.declared.refusal.Verdict.{Verdict}
+use Rattle.boost_tracker_table.specs.declared.refusal.Verdict.the-variants.{Accepted, Refused}
+use Rattle.boost_tracker_table.specs.declared.settings.Settings.{Settings}
+use Rattle.boost_tracker_table.specs.declared.sound.State.{State}
+use Rattle.boost_tracker_table.specs.Table.{Track, capacity, tracks, Laying}
+use Rattle.boost_tracker_table.specs.Laws.{lay-tracks, lay-finished}
+use Rattle.boost_tracker_table.specs.Verdict.{boxesIn, answer, verdict}
+use Rattle.boost_tracker_table.specs.Ready.{Ready, ready}
 use Rattle.boost_tracker_definition.specs.Update.{Stages, steps, update}
-use Rattle.boost_tracker_definition.specs.FactLaws.{frame-facts}
-use Rattle.stages.specs.declared.track.Advanced.{Advanced}
-use Rattle.stages.specs.Answers.{advancedBy, AdvanceLeaves, StartedFacts, AdvanceEnds}
+use Rattle.boost_tracker_definition.proofs.FactLaws.{frame-facts}
+use Rattle.boost_tracker_steps.specs.declared.all_steps.Advanced.{Advanced}
+use Rattle.boost_tracker_steps.specs.AllSteps.{advancedBy, AdvanceLeaves, StartedFacts, AdvanceEnds}
 use Rattle.boost_tracker.specs.declared.frame.UpdateAnswer.{UpdateAnswer}
 use Rattle.boost_tracker.specs.Answers.{refusedAnswer, UpdateDone, UpdateEnds}
-use Rattle.boost_tracker.specs.Steps.{FinishRoom, Finished}
+use Rattle.boost_tracker.specs.Private.{FinishRoom, Finished}
 
 told : (v : Verdict) (g : Stages) → advancedBy v g .verdict ≡ v
 told Accepted g = refl
@@ -47,7 +48,7 @@ module _ (s : Settings) (state : State) (f : List Float) (c : List ℕ) (boxes :
         let all : Laying f c f₁ c₁ xs = record { floats = l .floats; counters = l .counters } in
         let ends = lay-finished all many room (z .retired) (z .emptied) in
         let output = r .output in
-        let whole : tracks f₁ c₁ (min (state .count + a .started) (length out / 32)) ≡ xs = ap (tracks f₁ c₁) (min-eq-left (omega arith)) ∙ lay-tracks all many room in
+        let whole : tracks f₁ c₁ (min (state .count + a .started) (length out / trackBytes)) ≡ xs = ap (tracks f₁ c₁) (min-eq-left (omega arith)) ∙ lay-tracks all many room in
         let shown = rw whole at (z .output) in
         let turns : a .turns ≡ frame .result .turns = ap (λ (b : Advanced). b .turns) (l .answer) in
         let scans : a .scans ≡ frame .result .scans = ap (λ (b : Advanced). b .scans) (l .answer) in

@@ -6,15 +6,16 @@ use lib.ListN.{length}
 use lib.Ieee.{Float}
 use Rattle.laws.specs.Laid.{laid}
 use Rattle.floats.specs.Single.{zero}
-use Rattle.matching.specs.Answers.{zeroed}
+use Rattle.assoc_matching.specs.Answers.{zeroed}
 use Rattle.assoc.specs.Answers.{cleared}
-use Rattle.table.specs.declared.refusal.Verdict.{Verdict}
-use Rattle.table.specs.declared.refusal.Verdict.the-variants.{Accepted, Refused}
-use Rattle.table.specs.declared.settings.Settings.{Settings}
-use Rattle.table.specs.declared.sound.State.{State}
-use Rattle.table.specs.Table.{capacity, tracks, floatsOf, countersOf, filledUp}
-use Rattle.table.specs.Record.{recordBytes}
-use Rattle.table.specs.Frame.{answer, verdict}
+use Rattle.records.specs.TrackRecord.{trackBytes}
+use Rattle.boost_tracker_table.specs.declared.refusal.Verdict.{Verdict}
+use Rattle.boost_tracker_table.specs.declared.refusal.Verdict.the-variants.{Accepted, Refused}
+use Rattle.boost_tracker_table.specs.declared.settings.Settings.{Settings}
+use Rattle.boost_tracker_table.specs.declared.sound.State.{State}
+use Rattle.boost_tracker_table.specs.Table.{placeFloats, placeCounters, capacity, tracks, floatsOf, countersOf, filledUp}
+use Rattle.boost_tracker_table.specs.Record.{recordBytes}
+use Rattle.boost_tracker_table.specs.Verdict.{answer, verdict}
 use Rattle.boost_tracker.specs.declared.frame.UpdateAnswer.{UpdateAnswer}
 use Rattle.boost_tracker_definition.specs.Update.{Stages, update, stateAfter}
 use Rattle.boost_tracker_definition.specs.Facts.{FrameFacts}
@@ -36,16 +37,16 @@ answerThen (Refused why) state g = refusedAnswer (Refused why) state
 
 -- the retained tracks, zero in every place beyond them, and cells past the capacity as they were
 abbrev pub floatsThen : Verdict → Stages → List Float → List ℕ → List Float
-floatsThen Accepted g f c = filledUp floatsOf 24 zero (g .retained) (capacity (length f) (length c)) f
+floatsThen Accepted g f c = filledUp floatsOf placeFloats zero (g .retained) (capacity (length f) (length c)) f
 floatsThen (Refused why) g f c = f
 
 abbrev pub countersThen : Verdict → Stages → List Float → List ℕ → List ℕ
-countersThen Accepted g f c = filledUp countersOf 4 0 (g .retained) (capacity (length f) (length c)) c
+countersThen Accepted g f c = filledUp countersOf placeCounters 0 (g .retained) (capacity (length f) (length c)) c
 countersThen (Refused why) g f c = c
 
 -- the records of the output over the front
 abbrev pub outputThen : Verdict → Stages → List ℕ → List ℕ
-outputThen Accepted g out = laid (recordBytes (g .frameCount)) 32 (g .output) out
+outputThen Accepted g out = laid (recordBytes (g .frameCount)) trackBytes (g .output) out
 outputThen (Refused why) g out = out
 
 abbrev pub doublesThen : Verdict → List Float → List Float

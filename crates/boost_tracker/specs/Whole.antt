@@ -10,15 +10,16 @@ use lib.Ieee.{Float}
 use lib.Ieee.Scale.{finite}
 use Rattle.laws.specs.Scan.{lowest}
 use Rattle.laws.specs.Every.{every}
-use Rattle.table.specs.declared.refusal.Refusal.{Refusal}
-use Rattle.table.specs.declared.refusal.Refusal.the-variants.{TableNotSound, TrackNotWorkable, SettingNotFinite, TooManyBoxes, TableFull, BadBox, TooManyFrames, OutputShort, WorkShort}
-use Rattle.table.specs.declared.refusal.Verdict.{Verdict}
-use Rattle.table.specs.declared.refusal.Verdict.the-variants.{Accepted, Refused}
-use Rattle.table.specs.declared.settings.Settings.{Settings}
-use Rattle.table.specs.declared.sound.State.{State}
-use Rattle.table.specs.Table.{capacity, tracks}
-use Rattle.table.specs.Sound.{soundTable}
-use Rattle.table.specs.Frame.{answer, workable, settingFloats, badBoxAt, boxesIn, ofTable, ofBoxes, ofRoom, orElse, verdict}
+use Rattle.records.specs.TrackRecord.{trackBytes}
+use Rattle.boost_tracker_table.specs.declared.refusal.Refusal.{Refusal}
+use Rattle.boost_tracker_table.specs.declared.refusal.Refusal.the-variants.{TableNotSound, TrackNotWorkable, SettingNotFinite, TooManyBoxes, TableFull, BadBox, TooManyFrames, OutputShort, WorkShort}
+use Rattle.boost_tracker_table.specs.declared.refusal.Verdict.{Verdict}
+use Rattle.boost_tracker_table.specs.declared.refusal.Verdict.the-variants.{Accepted, Refused}
+use Rattle.boost_tracker_table.specs.declared.settings.Settings.{Settings}
+use Rattle.boost_tracker_table.specs.declared.sound.State.{State}
+use Rattle.boost_tracker_table.specs.Table.{capacity, tracks}
+use Rattle.boost_tracker_table.specs.Sound.{soundTable}
+use Rattle.boost_tracker_table.specs.Verdict.{answer, workable, settingFloats, badBoxAt, boxesIn, ofTable, ofBoxes, ofRoom, orElse, verdict}
 use Rattle.boost_tracker.specs.declared.frame.UpdateAnswer.{UpdateAnswer}
 use Rattle.boost_tracker_definition.specs.Update.{Stages, update}
 use Rattle.boost_tracker.specs.Answers.{refusedAnswer, acceptedAnswer, UpdateLeaves, UpdateEnds}
@@ -55,7 +56,7 @@ module _ (s : Settings) (state : State) (boxes : List Float) (m : Memory) where
       ∷ (15, ltb places records)
       ∷ (16, ltb lowestBad (boxesIn boxes))
       ∷ (17, leb 2147483647 (state .frames))
-      ∷ (18, ltb (length (m .output) / 32) records)
+      ∷ (18, ltb (length (m .output) / trackBytes) records)
       ∷ (19, ltb (length (m .work64)) (side * side) || ltb (length (m .work32)) (4 * (side * side)))
       ∷ []
 

@@ -1,11 +1,11 @@
 // A frame: its steps 1 to 7, and where it is accepted step 8, the output and the tracks that are retained.
-use stages::Advanced;
-use stages::advance;
-use table::Settings;
-use table::State;
-use table::Verdict;
+use boost_tracker_steps::Advanced;
+use boost_tracker_steps::advance;
+use boost_tracker_table::Settings;
+use boost_tracker_table::State;
+use boost_tracker_table::Verdict;
 ghost use mathlib.Core.Path.{_≡_};
-ghost use Rattle.boost_tracker.specs.Steps.{FinishRoom, Finished};
+ghost use Rattle.boost_tracker.specs.Private.{FinishRoom, Finished};
 ghost use Rattle.boost_tracker.specs.Answers.{refusedAnswer, UpdateEnds};
 
 // The state is the new one, or the one given where the frame is refused; the counts are 0 there.
@@ -33,9 +33,16 @@ fn finish(
     let frame = state.frames + 1;
     let started = advanced.started;
     let all = state.count + started;
-    let emitted = table::emit(floats, counters, all, frame as u32, settings.min_hits, out);
-    let count = table::retire(floats, counters, all, settings.max_age);
-    table::clear_beyond(floats, counters, count);
+    let emitted = boost_tracker_table::emit(
+        floats,
+        counters,
+        all,
+        frame as u32,
+        settings.min_hits,
+        out,
+    );
+    let count = boost_tracker_table::retire(floats, counters, all, settings.max_age);
+    boost_tracker_table::clear_beyond(floats, counters, count);
     let last = state.last + started as u64;
     let after = State {
         count,

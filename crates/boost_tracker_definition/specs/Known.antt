@@ -11,11 +11,11 @@ use Rattle.laws.specs.Sieve.{sieve}
 use Rattle.strack.specs.Rect.{widthOf}
 use Rattle.strack.specs.Strack.{new as newTrack, getState, confidence}
 use Rattle.assoc.specs.Association.{associate}
-use Rattle.table.specs.declared.settings.Settings.{Settings}
-use Rattle.table.specs.declared.sound.State.{State}
-use Rattle.table.specs.Settings.{new}
-use Rattle.table.specs.Table.{Track}
-use Rattle.table.specs.Record.{recordOf}
+use Rattle.boost_tracker_table.specs.declared.settings.Settings.{Settings}
+use Rattle.boost_tracker_table.specs.declared.sound.State.{State}
+use Rattle.boost_tracker_table.specs.Settings.{new}
+use Rattle.boost_tracker_table.specs.Table.{Track}
+use Rattle.boost_tracker_table.specs.Record.{recordOf}
 use Rattle.boost_tracker_definition.specs.Update.{Stages, bboxes, scores, trks, confs, afterDlo, afterDuo, remainInds, detBboxes, detScores, mhDist, result, matched, started, steps, update, stateAfter}
 
 -- trackbox's settings

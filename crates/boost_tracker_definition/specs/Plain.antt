@@ -1,80 +1,37 @@
--- Steps 3, 6 and 7 of the definition in plainer words: every retained score passes the threshold, pairs correct tracks one after the other, and each unmatched box starts a track. Assumes nothing.
-use mathlib.Core.Path.{_≡_, refl, _∙_}
+-- Steps 6 and 7 of the definition in plainer words, as the code's contracts cite them: pairs correct tracks one after the other, and each unmatched box starts a track. And what step 3 leaves: every retained score
+-- passes the threshold. `all-above`, `matched-is` and `started-is` of proofs/PlainLaws.antt say that they are the definition's.
+use mathlib.Core.Path.{_≡_}
 use mathlib.Core.Bool.{true}
-use mathlib.Core.List.{List, _++_, map, append-assoc, append-nil}
-use Prim.Native.Nat.{ℕ, zero, suc, _+_, _≤_, _<_}
-use native.Mathlib.Nat.{le-refl}
-use native.Mathlib.Omega.{arith}
-use lib.ListN.{length, length-set, length-map, getD, List·getD-map}
+use mathlib.Core.List.{List}
+use Prim.Native.Nat.{ℕ, _+_, _<_}
+use lib.ListN.{length, getD}
 use lib.Ieee.{Float, nan, le}
-use Rattle.laws.specs.Tab.{tab, getD-any, indices}
-use Rattle.laws.specs.Fold.{fold, fold-ext, fold-list}
-use Rattle.laws.specs.Sieve.{sieve, sieve-at}
+use Rattle.laws.specs.Tab.{tab}
+use Rattle.laws.specs.Fold.{fold}
 use Rattle.strack.specs.Strack.{new}
-use Rattle.boosts.specs.MhDist.{det}
-use Rattle.matching.specs.Matching.{Pair, pair, boxesOf, tracksOf}
-use Rattle.table.specs.Table.{Track, corrected}
-use Rattle.boost_tracker_definition.specs.Update.{remains, remainInds, detScores, matched, startedFrom, startOne, started}
+use Rattle.boost_tracker_dlo.specs.MhDist.{det}
+use Rattle.boost_tracker_table.specs.Table.{Track, corrected}
 
 -- ---- step 3
 
+-- each of these scores is at least the threshold
 abbrev pub Above : Float → List Float → Type 0
 Above thresh probs = (k : ℕ) → k < length probs → le thresh (getD probs k nan) ≡ true
-
--- every retained score is at least the threshold
-pub all-above : (thresh : Float) (l : List Float) → Above thresh (detScores l (remainInds thresh l))
-unfolding detScores remainInds
-all-above thresh l k h =
-    let inds : List ℕ = sieve (remains thresh l) (indices (length l)) in
-    let n : k < length inds = rw (length-map inds (λ i. getD l i nan)) at h in
-    let f : ℕ → Float = λ i. getD l i nan in
-    rw (getD-any (map f inds) k nan (f 0) h ∙ List·getD-map f inds k 0) (sieve-at (remains thresh l) (indices (length l)) k 0 n)
 
 -- ---- step 6
 
 -- pair k corrects track k of the one list by box k of the other
+abbrev pub correctOne : List Float → List ℕ → List ℕ → List Track → ℕ → List Track
+correctOne corners pairBoxes pairTracks ts k = corrected ts (getD pairTracks k 0) (det corners (getD pairBoxes k 0))
+
 unfoldable pub correctedBy : List Float → List ℕ → List ℕ → List Track → List Track
-correctedBy corners pairBoxes pairTracks trackers = fold (λ ts k. corrected ts (getD pairTracks k 0) (det corners (getD pairBoxes k 0))) trackers (length pairBoxes)
-
-module _ (corners : List Float) (pairBoxes pairTracks : List ℕ) where
-  abbrev pub correctOne : List Track → ℕ → List Track
-  correctOne ts k = corrected ts (getD pairTracks k 0) (det corners (getD pairBoxes k 0))
-
-  pub correct-many : (ts : List Track) (k : ℕ) → length (fold correctOne ts k) ≡ length ts
-  unfolding fold
-  correct-many ts zero = refl
-  correct-many ts (suc k) = length-set (fold correctOne ts k) _ _ ∙ correct-many ts k
-
-  pub corrected-many : (ts : List Track) → length (correctedBy corners pairBoxes pairTracks ts) ≡ length ts
-  unfolding correctedBy
-  corrected-many ts = correct-many ts (length pairBoxes)
-
-pub matched-is : (corners : List Float) (matches : List Pair) (ts : List Track) → matched corners matches ts ≡ correctedBy corners (boxesOf matches) (tracksOf matches) ts
-unfolding matched correctedBy
-matched-is corners matches ts =
-    fold-list (λ (us : List Track) (p : Pair). corrected us (p .track) (det corners (p .box))) ts matches (pair 0 0)
-    ∙ rw (length-map matches (λ (p : Pair). p .box))
-    (fold-ext _ _ ts (length matches) (λ us k h. rw (List·getD-map (λ (p : Pair). p .box) matches k (pair 0 0), List·getD-map (λ (p : Pair). p .track) matches k (pair 0 0))))
+correctedBy corners pairBoxes pairTracks trackers = fold (correctOne corners pairBoxes pairTracks) trackers (length pairBoxes)
 
 -- ---- step 7
 
 -- a track for each box of the list, with the ids after the last one
-unfoldable pub startedBy : ℕ → List Float → List ℕ → List Track
-startedBy last corners unmatched = tab (λ k. new (det corners (getD unmatched k 0)) (last + k + 1)) (length unmatched)
-
 abbrev pub startAt : ℕ → List Float → List ℕ → ℕ → Track
 startAt last corners unmatched k = new (det corners (getD unmatched k 0)) (last + k + 1)
 
-module _ (thresh : Float) (corners probs : List Float) (unmatched : List ℕ) (last : ℕ) (ts : List Track) (above : Above thresh probs) (within : (k : ℕ) → k < length unmatched → getD unmatched k 0 < length probs) where
-  started-upto : (n : ℕ) → n ≤ length unmatched
-      → fold (λ s k. startOne thresh corners probs s (getD unmatched k 0)) (startedFrom last ts) n ≡ startedFrom (last + n) (ts ++ tab (startAt last corners unmatched) n)
-  unfolding tab fold
-  started-upto zero h = let e : last + 0 ≡ last = omega arith in rw (e, append-nil)
-  started-upto (suc n) h =
-      let e : last + suc n ≡ last + n + 1 = omega arith in
-      rw (started-upto n (omega arith), above (getD unmatched n 0) (within n h), append-assoc, e)
-
-  -- every box that is left passes the Rust's test, so each starts a track
-  pub started-is : started thresh corners probs unmatched (startedFrom last ts) ≡ startedFrom (last + length unmatched) (ts ++ startedBy last corners unmatched)
-  unfolding started startedBy
-  started-is = fold-list (startOne thresh corners probs) (startedFrom last ts) unmatched 0 ∙ started-upto (length unmatched) (le-refl (length unmatched))
+unfoldable pub startedBy : ℕ → List Float → List ℕ → List Track
+startedBy last corners unmatched = tab (startAt last corners unmatched) (length unmatched)

@@ -13,20 +13,21 @@ use Rattle.laws.specs.Grid.{grid}
 use Rattle.strack.specs.declared.rect.Xyxy.{Xyxy}
 use Rattle.strack.specs.Rect.{getXyxy}
 use Rattle.strack.specs.Strack.{new, predict, getState, getConfidence}
-use Rattle.similarity.specs.declared.cost.AssociateParams.{AssociateParams}
-use Rattle.boosts.specs.declared.dlo.DloSettings.{DloSettings}
-use Rattle.boosts.specs.MhDist.{det, getMhDistMatrix}
-use Rattle.boosts.specs.Dlo.{dloConfidenceBoost}
-use Rattle.duo.specs.Duo.{duoConfidenceBoost}
-use Rattle.matching.specs.Matching.{Pair}
-use Rattle.matching.specs.Assignment.{Assignment}
+use Rattle.assoc_similarity.specs.declared.cost.AssociateParams.{AssociateParams}
+use Rattle.boost_tracker_dlo.specs.declared.dlo.DloSettings.{DloSettings}
+use Rattle.boost_tracker_dlo.specs.MhDist.{det, getMhDistMatrix}
+use Rattle.boost_tracker_dlo.specs.Dlo.{dloConfidenceBoost}
+use Rattle.records.specs.BoxRecord.{boxValues}
+use Rattle.boost_tracker_duo.specs.Duo.{duoConfidenceBoost}
+use Rattle.assoc_matching.specs.Matching.{Pair}
+use Rattle.assoc_matching.specs.Assignment.{Assignment}
 use Rattle.assoc.specs.Association.{associate}
-use Rattle.table.specs.declared.settings.Settings.{Settings}
-use Rattle.table.specs.declared.sound.State.{State}
-use Rattle.table.specs.Table.{Track, blank, corrected, retained}
-use Rattle.table.specs.Record.{nineTenths}
-use Rattle.table.specs.Emission.{emitted}
-use Rattle.table.specs.Frame.{boxesIn}
+use Rattle.boost_tracker_table.specs.declared.settings.Settings.{Settings}
+use Rattle.boost_tracker_table.specs.declared.sound.State.{State}
+use Rattle.boost_tracker_table.specs.Table.{Track, blank, corrected, retained}
+use Rattle.boost_tracker_table.specs.Record.{nineTenths}
+use Rattle.boost_tracker_table.specs.Emission.{emitted}
+use Rattle.boost_tracker_table.specs.Verdict.{boxesIn}
 
 -- ---- the objects, lines 267-274
 
@@ -44,10 +45,10 @@ trackerAt trackers j = getD trackers j blank
 
 -- o.get_rect().get_xyxy() and o.get_prob() of object i
 abbrev pub xyxyOf : List Float → ℕ → Xyxy
-xyxyOf objects i = getXyxy (record { left = getD objects (i * 5) nan; top = getD objects (i * 5 + 1) nan; width = getD objects (i * 5 + 2) nan; height = getD objects (i * 5 + 3) nan })
+xyxyOf objects i = getXyxy (record { left = getD objects (i * boxValues) nan; top = getD objects (i * boxValues + 1) nan; width = getD objects (i * boxValues + 2) nan; height = getD objects (i * boxValues + 3) nan })
 
 abbrev pub probOf : List Float → ℕ → Float
-probOf objects i = getD objects (i * 5 + 4) nan
+probOf objects i = getD objects (i * boxValues + 4) nan
 
 -- the corners and the scores of dets
 unfoldable pub bboxes : List Float → List Float

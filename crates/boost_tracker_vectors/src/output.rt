@@ -1,10 +1,11 @@
 // The digest of a frame's output: its track records, and the bytes behind them.
-use crate::numbers::at_most;
+use records::TRACK_BYTES;
 use records::TrackAnswer;
 use records::TrackRecord;
 use vectors::digest;
 use vectors::digest::float;
 use vectors::digest::join;
+use vectors::part::at_most;
 
 // Frame, id and floats.
 fn record(sum: u64, t: TrackRecord) -> u64 {
@@ -33,6 +34,9 @@ fn track_records(s: &[u8], count: usize) -> u64 {
 // The records, and each byte behind them.
 pub(crate) fn digest_of(out: &[u8], emitted: usize) -> u64 {
     let written = track_records(out, emitted);
-    let behind = at_most(out.len(), at_most(512, emitted) * 32);
+    let behind = at_most(
+        out.len(),
+        at_most(512, emitted as u64) as u64 * TRACK_BYTES as u64,
+    );
     digest::bytes(written, &out[behind..])
 }

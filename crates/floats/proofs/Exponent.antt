@@ -2,7 +2,8 @@
 use mathlib.Core.Path.{_≡_, refl, sym, ap, subst, _∙_}
 use mathlib.Core.Bool.{Bool, true, false, cond, _||_, true≢false}
 use Prim.Native.Nat.{ℕ, zero, suc, _+_, _-_, _*_, _/_, _^_, _≤_, _<_}
-use native.Mathlib.Nat.{le-trans, le-of-eq, le-suc, lt-suc-self, le-antisymm, lt-irrefl, lt-of-lt-of-le, lt-of-le-of-lt, lt-of-not-le, not-le-of-lt, le-of-suc-le-suc, zero-lt-suc, mul-assoc, mul-comm, mul-right-comm, zero-mul, mul-pos, mul-le-mul-right, mul-lt-mul-of-pos-right, le-of-mul-le-mul-right, lt-of-mul-lt-mul-right, eq-of-mul-eq-mul-right, le-div-iff-mul-le, div-mul-le-self, div-le-of-le-mul, zero-div}
+use native.Mathlib.Nat.{le-trans, le-of-eq, le-suc, le-antisymm, lt-irrefl, lt-of-lt-of-le, lt-of-le-of-lt, lt-of-not-le, not-le-of-lt, zero-lt-suc}
+use native.Mathlib.Nat.{lt-suc-self, le-of-suc-le-suc, mul-assoc, mul-comm, mul-right-comm, zero-mul, mul-pos, mul-le-mul-right, mul-lt-mul-of-pos-right, le-of-mul-le-mul-right, lt-of-mul-lt-mul-right, eq-of-mul-eq-mul-right, le-div-iff-mul-le, div-mul-le-self, div-le-of-le-mul, zero-div}
 use native.Mathlib.Omega.{arith}
 use lib.Dec.{T, ltb, lit<}
 use lib.Pow.{pow-add, pow-pos, pow-mono}
@@ -15,7 +16,7 @@ use lib.Ieee.Digits.{minus-val}
 use lib.Ieee.Scale.{finite, round-same}
 use lib.Ieee.Nearest.{div-same}
 use Rattle.floats.specs.Exponential.{quotient, signed, Q, L, S, ofQ}
-use Rattle.floats.specs.Steps.{Parts, Splits}
+use Rattle.floats.specs.Private.{Parts, Splits}
 
 -- ---- the range that is left: a is finite, and 104 at most
 abbrev pub Small : Float → Type 0
@@ -75,7 +76,7 @@ quotient-le n d x y Y e =
 not-zero : (x d y : ℕ) → 0 < d → 0 * y ≡ suc x * d → ⊥
 not-zero x d y D e = lt-irrefl 0 (lt-of-lt-of-le (mul-pos (zero-lt-suc x) D) (le-of-eq (sym e ∙ zero-mul y)))
 
-pub quotient-same : (s : Bool) (n d x y : ℕ) → 0 < d → 0 < y → n * y ≡ x * d → quotient (signed s n) d ≡ quotient (signed s x) y
+quotient-same : (s : Bool) (n d x y : ℕ) → 0 < d → 0 < y → n * y ≡ x * d → quotient (signed s n) d ≡ quotient (signed s x) y
 quotient-same false n d x y D Y e = ap pos (div-same n d x y D Y e)
 quotient-same true zero d zero y D Y e = ap pos (zero-div d ∙ sym (zero-div y))
 quotient-same true zero d (suc x) y D Y e = absurd (not-zero x d y D e)

@@ -13,7 +13,7 @@ use lib.Ieee.Digits.{size-le}
 use lib.Ieee.Fits.{down-pos, odd-fits}
 use lib.Ieee.Exact.{HasValue, odd-sign}
 use lib.Ieee.Bits.{ofBits-toBits, nanBits-above}
-use Rattle.floats.specs.Laws.Digits.{size-is, none-or-some}
+use Rattle.floats.proofs.Digits.{size-is, none-or-some}
 
 -- the bit pattern of n units: the digits that are dropped are counted in the exponent's field, and the leading one of those that are kept adds one to it
 abbrev pattern : ℕ → ℕ

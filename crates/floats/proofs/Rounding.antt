@@ -14,7 +14,7 @@ use lib.Ieee.{binary32, size, nearest, units, round}
 use lib.Ieee.Digits.{size-le}
 use lib.Ieee.Fits.{round-is, nearest-le}
 use lib.Ieee.Nearest.{closest, closest-same, nearest-ge}
-use Rattle.floats.specs.Laws.Digits.{size-is, none-or-some}
+use Rattle.floats.proofs.Digits.{size-is, none-or-some}
 use Rattle.floats.proofs.Pack.{Kept}
 
 -- the unit 2^k, as the machine shifts it

@@ -1,13 +1,15 @@
 -- The terms t(k) and their sum: how large they are, and one term more, by r and by a factor. Assumes nothing.
 use mathlib.Core.Path.{_≡_, refl, sym, ap, subst, _∙_}
 use Prim.Native.Nat.{ℕ, zero, suc, _+_, _-_, _*_, _/_, _%_, _^_, _≤_, _<_}
-use native.Mathlib.Nat.{le-refl, le-trans, le-of-lt, le-of-eq, lt-of-lt-of-le, lt-of-le-of-lt, add-assoc, mul-comm, mul-assoc, mul-right-comm, mul-add, mul-pos, mul-le-mul, mul-le-mul-left, mul-le-mul-right, le-of-mul-le-mul-right, lt-of-mul-lt-mul-right, suc-mul, div-le-self, div-le-of-le-mul, div-mul-le-self, div-eq-of-lt-le, div-div-eq-div-mul, lt-div-mul-add, le-add-right}
+use native.Mathlib.Nat.{le-refl, le-trans, le-of-lt, le-of-eq, lt-of-lt-of-le, lt-of-le-of-lt, zero-lt-suc, add-assoc, div-le-self, div-eq-of-lt-le, le-add-right}
+use native.Mathlib.Nat.{mul-comm, mul-assoc, mul-right-comm, mul-add, mul-pos, mul-le-mul, mul-le-mul-left, mul-le-mul-right, le-of-mul-le-mul-right, lt-of-mul-lt-mul-right, suc-mul, div-le-of-le-mul, div-mul-le-self, div-div-eq-div-mul, lt-div-mul-add}
 use native.Mathlib.Numerals.{add-one}
 use native.Mathlib.Omega.{arith}
+use lib.Pow.{pow-pos}
+use lib.Ieee.Nearest.{div-mono}
 use lib.Dec.{lit<}
 use Rattle.floats.specs.Exponential.{L, t, S}
-use Rattle.floats.specs.Laws.{terms-grow}
-use Rattle.floats.specs.Steps.{Summed}
+use Rattle.floats.specs.Private.{Summed}
 
 -- the terms do not grow, since r is below 2^30
 module _ (r : ℕ) (h : r < 2 ^ 30) where
@@ -30,7 +32,14 @@ module _ (r : ℕ) (h : r < 2 ^ 30) where
   sum-ge zero = le-refl (2 ^ 30)
   sum-ge (suc k) = le-trans (sum-ge k) (le-add-right (S r k) (t r (suc k)))
 
--- the sum is largest for the largest r
+-- the terms and their sum are largest for the largest r
+pub terms-grow : (r R k : ℕ) → r ≤ R → t r k ≤ t R k
+unfolding t
+terms-grow r R zero h = le-refl (2 ^ 30)
+terms-grow r R (suc k) h =
+    let d : 0 < suc k * 2 ^ 30 = mul-pos (zero-lt-suc k) (pow-pos 30) in
+    div-mono (t r k * r) (suc k * 2 ^ 30) (t R k * R) (suc k * 2 ^ 30) d d (mul-le-mul-right (suc k * 2 ^ 30) (mul-le-mul (terms-grow r R k h) h))
+
 sums-grow : (r R k : ℕ) → r ≤ R → S r k ≤ S R k
 unfolding S
 sums-grow r R zero h = terms-grow r R 0 h
@@ -158,3 +167,11 @@ small-step r k last above some s small =
       room = one .room;
       next = subst (λ (x : ℕ). Summed r k x (2 ^ 30 + (above + x))) (sym same) (one .next);
     }
+
+-- ---- of the largest r the last two terms are 0
+pub last-terms : (r : ℕ) → r < L → (t r 11 ≡ 0) × (t r 12 ≡ 0)
+unfolding t
+last-terms r h = (none-left (terms-grow r (L - 1) 11 (omega arith)), none-left (terms-grow r (L - 1) 12 (omega arith)))
+  where
+    none-left : {n : ℕ} → n ≤ 0 → n ≡ 0
+    none-left h = omega arith

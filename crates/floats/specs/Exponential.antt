@@ -36,13 +36,13 @@ S r zero = t r 0
 S r (suc n) = S r n + t r (suc n)
 
 -- s × 2^z to the nearest f32, ties to even, small results with fewer bits, and infinity where IEEE 754 rounding overflows: the library's `round` of the fraction s × up z / down z
-abbrev pub nearest : ℕ → ℤ → Float
-nearest s z = round binary32 false (s * up z) (down z)
+abbrev pub toNearest : ℕ → ℤ → Float
+toNearest s z = round binary32 false (s * up z) (down z)
 
 -- the quotient of Q by L is q and the remainder r, S is the sum t0 to t12, and the result S × 2^(q - 30)
 unfoldable pub ofQ : ℤ → Float
 unfolding S
-ofQ z = nearest (S (remainder z L) 12) (quotient z L -ℤ pos 30)
+ofQ z = toNearest (S (remainder z L) 12) (quotient z L -ℤ pos 30)
 
 -- a that is neither a NaN nor an infinity
 unfoldable pub ofFinite : Float → Float

@@ -2,7 +2,7 @@
 ghost use mathlib.Core.Path.{_≡_};
 ghost use Prim.Native.Nat.{_+_, _-_, _*_, _/_, _^_, _<_, _≤_};
 ghost use Rattle.floats.specs.Exponential as Exponential;
-ghost use Rattle.floats.specs.Steps.{Splits, Summed};
+ghost use Rattle.floats.specs.Private.{Splits, Summed};
 
 // e to the power a.
 pub fn exp(a: f32) -> f32

@@ -7,7 +7,7 @@ ghost use lib.Dec.{T};
 ghost use lib.Ieee.{binary32, units, round};
 ghost use lib.Ieee.Scale.{finite};
 ghost use lib.Ieee.Nearest.{closest};
-ghost use Rattle.floats.specs.Steps.{Parts};
+ghost use Rattle.floats.specs.Private.{Parts};
 
 pub(crate) struct Unpacked {
     pub(crate) negative: bool,

@@ -2,7 +2,7 @@
 ghost use mathlib.Core.Path.{_≡_};
 ghost use Prim.Native.Nat.{_*_, _^_, _<_};
 ghost use Rattle.floats.specs.Root as Root;
-ghost use Rattle.floats.specs.Steps.{Significant};
+ghost use Rattle.floats.specs.Private.{Significant};
 
 // The square root of x.
 pub fn sqrt(x: f32) -> f32

@@ -19,7 +19,7 @@ use Rattle.floats.specs.Root.{root}
 use Rattle.floats.specs.Exponential.{exp}
 use Rattle.strack.specs.Known as strack
 use Rattle.strack.specs.Strack.{confidence}
-use Rattle.similarity.specs.Overlap.{intersection, union, ratio, overlap, iouBatch}
+use Rattle.assoc_similarity.specs.Overlap.{intersection, union, ratio, overlap, iouBatch}
 use Rattle.lapjv.specs.Answers.{verdictOf}
 use Rattle.lapjv_definition.specs.Ca.{caFrom}
 use Rattle.lapjv_definition.specs.Carr.{twoFrom, carrTwo, carrTurn, carrFrom}
@@ -27,8 +27,8 @@ use Rattle.lapjv_definition.specs.Ccrt.{rowFrom, rowsFrom, colsFrom, minFrom, r
 use Rattle.lapjv_definition.specs.Entry.{ownerOf, isFree, rowOf}
 use Rattle.lapjv_definition.specs.Lapjv.{roundsFrom, lapjv}
 use Rattle.lapjv_definition.specs.Path.{searchStep, searchFrom, findPathDense}
-use Rattle.matching.specs.Matching.{boxesOf, tracksOf, above, simple, simpleMatches, costCell, costVec, isErr, extract, extracted, Matched, matchDetections}
-use Rattle.matching.specs.Assignment.{Assignment, linearAssignment}
+use Rattle.assoc_matching.specs.Matching.{boxesOf, tracksOf, above, simple, simpleMatches, costCell, costVec, isErr, extract, extracted, Matched, matchDetections}
+use Rattle.assoc_matching.specs.Assignment.{Assignment, linearAssignment}
 
 abbrev whole : ℕ → Float
 whole n = ofInt binary32 (pos n)

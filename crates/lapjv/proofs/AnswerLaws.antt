@@ -8,18 +8,16 @@ use lib.Dec.{eqb, ltb}
 use lib.ListN.{length}
 use lib.Ieee.{Float}
 use Rattle.laws.specs.Choose.{cond-no, cond-yes}
-use Rattle.lapjv.specs.Answers.{refusalNumber, verdictOf, numberOf, turnsOf, scansOf, answerFor, slice, Answered}
-use Rattle.lapjv_definition.specs.Bounds.{Bounds, Paired}
+use Rattle.lapjv.specs.Answers.{refusalNumber, verdictOf, numberOf, turnsOf, scansOf, answerFor, lentAfter, Answered}
+use Rattle.lapjv_definition.specs.Bounds.{Bounds}
 use Rattle.lapjv_definition.specs.Halves.{assigning}
 use Rattle.lapjv_definition.specs.Invariant.{Ready}
 use Rattle.lapjv_definition.specs.Lapjv.{Assignment, assignment, lapjv}
 use Rattle.lapjv.specs.declared.Answer.the-variants.{Assigned, Refused}
-use Rattle.lapjv.specs.declared.Answer.{Answer}
 use Rattle.lapjv.specs.declared.Counts.{Counts}
 use Rattle.lapjv.specs.declared.Refusal.the-variants.{NoSide, SideAbove255, WrongSize}
 use Rattle.lapjv.specs.declared.Refusal.{Refusal}
 use Rattle.lapjv.specs.declared.Verdict.the-variants.{Fits, Unfit}
-use Rattle.lapjv.specs.declared.Verdict.{Verdict}
 use Rattle.lapjv_definition.proofs.HalvesLaws.{fitted, assigning-does}
 use Rattle.lapjv_definition.proofs.Theorem.{bounds}
 
@@ -50,9 +48,9 @@ module _ (n costs xs ys : ℕ) where
           unfolding verdictOf
           bad-cols h = rw (ne-eqb n 0 some, le-ltb 255 n small, eq-eqb costs (n * n) ec, eq-eqb xs n ex, ne-eqb ys n h)
 
-          pub fits : ys ≡ n → verdictOf n costs xs ys ≡ Fits
+          pub all-fit : ys ≡ n → verdictOf n costs xs ys ≡ Fits
           unfolding verdictOf
-          fits h = rw (ne-eqb n 0 some, le-ltb 255 n small, eq-eqb costs (n * n) ec, eq-eqb xs n ex, eq-eqb ys n h)
+          all-fit h = rw (ne-eqb n 0 some, le-ltb 255 n small, eq-eqb costs (n * n) ec, eq-eqb xs n ex, eq-eqb ys n h)
 
 -- a call that is not refused has a side from 1 to 255 and slices of its sizes
 pub ready : {n : ℕ} {cost : List Float} {x y : List ℕ} → verdictOf n (length cost) (length x) (length y) ≡ Fits → Ready n cost x y
@@ -81,7 +79,7 @@ no-zero SideAbove255 e = omega arith
 no-zero WrongSize e = omega arith
 
 pub refuse : {n : ℕ} {cost : List Float} {x y : List ℕ} {why : Refusal} → verdictOf n (length cost) (length x) (length y) ≡ Unfit why → Answered n cost x y (Refused why) x y
-unfolding answerFor slice numberOf turnsOf scansOf
+unfolding answerFor lentAfter numberOf turnsOf scansOf
 refuse {why = why} h = record {
   answer = rw h;
   xs = rw h;
@@ -93,7 +91,7 @@ refuse {why = why} h = record {
 
 pub accept : {n : ℕ} {cost : List Float} {x y : List ℕ} {c : Counts} {x′ y′ : List ℕ} → verdictOf n (length cost) (length x) (length y) ≡ Fits
     → assignment 0 x′ y′ (c .turns) (c .scans) ≡ assigning n cost x y → Answered n cost x y (Assigned c) x′ y′
-unfolding answerFor slice numberOf turnsOf scansOf
+unfolding answerFor lentAfter numberOf turnsOf scansOf
 accept {n} {cost} {x} {y} {c} {x′} {y′} h given = record {
   answer = rw h (ap (λ (w : Assignment). Assigned (record { turns = w .turns; scans = w .scans })) e);
   xs = rw h ex;
@@ -117,12 +115,3 @@ accept {n} {cost} {x} {y} {c} {x′} {y′} h given = record {
 
     ey : y′ ≡ lapjv n cost .y
     ey = ap (λ (w : Assignment). w .y) e
-
--- for a caller whose slices have their sizes
-pub answered-fits : {n : ℕ} {cost : List Float} {x y : List ℕ} {r : Answer} {x′ y′ : List ℕ} → Ready n cost x y → Answered n cost x y r x′ y′
-    → (r ≡ Assigned (record { turns = lapjv n cost .turns; scans = lapjv n cost .scans })) × (x′ ≡ lapjv n cost .x) × (y′ ≡ lapjv n cost .y) × Paired n x′ y′
-unfolding answerFor slice numberOf
-answered-fits {n} {cost} {x} {y} q a =
-    let f = fits n (length cost) (length x) (length y) (λ e. omega (arith, q .square .some)) (q .square .small) (q .square .whole) (q .rows) (q .cols) in
-    let e = a .answer ∙ ap (answerFor n cost) f in
-    (e, a .xs ∙ ap (λ (z : Verdict). slice z (lapjv n cost .x) x) f, a .ys ∙ ap (λ (z : Verdict). slice z (lapjv n cost .y) y) f, a .paired (ap numberOf e))

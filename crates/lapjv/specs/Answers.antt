@@ -10,7 +10,6 @@ use Rattle.lapjv_definition.specs.Bounds.{Paired}
 use Rattle.lapjv_definition.specs.Lapjv.{lapjv}
 use Rattle.lapjv.specs.declared.Answer.the-variants.{Assigned, Refused}
 use Rattle.lapjv.specs.declared.Answer.{Answer}
-use Rattle.lapjv.specs.declared.Counts.{Counts}
 use Rattle.lapjv.specs.declared.Refusal.the-variants.{NoSide, SideAbove255, WrongSize}
 use Rattle.lapjv.specs.declared.Refusal.{Refusal}
 use Rattle.lapjv.specs.declared.Verdict.the-variants.{Fits, Unfit}
@@ -48,15 +47,15 @@ answerFor n cost Fits = Assigned (record { turns = lapjv n cost .turns; scans = 
 answerFor n cost (Unfit why) = Refused why
 
 -- a lent slice at exit: what the definition gives, or what it was where the call is refused
-unfoldable pub slice : Verdict → List ℕ → List ℕ → List ℕ
-slice Fits new old = new
-slice (Unfit why) new old = old
+unfoldable pub lentAfter : Verdict → List ℕ → List ℕ → List ℕ
+lentAfter Fits new old = new
+lentAfter (Unfit why) new old = old
 
 pub record Answered (n : ℕ) (cost : List Float) (x y : List ℕ) (r : Answer) (x′ y′ : List ℕ) : Type 0 where
   -- the answer and both slices are the definition's; a refused call changes nothing
   pub answer : r ≡ answerFor n cost (verdictOf n (length cost) (length x) (length y))
-  pub xs : x′ ≡ slice (verdictOf n (length cost) (length x) (length y)) (lapjv n cost .x) x
-  pub ys : y′ ≡ slice (verdictOf n (length cost) (length x) (length y)) (lapjv n cost .y) y
+  pub xs : x′ ≡ lentAfter (verdictOf n (length cost) (length x) (length y)) (lapjv n cost .x) x
+  pub ys : y′ ≡ lentAfter (verdictOf n (length cost) (length x) (length y)) (lapjv n cost .y) y
   -- for callers: what follows of an accepted call's slices, and of the counts of any call
   pub paired : numberOf r ≡ 0 → Paired n x′ y′
   pub turns : turnsOf r ≤ 2 * n * (n - 1)

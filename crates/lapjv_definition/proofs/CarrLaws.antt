@@ -15,7 +15,7 @@ use Rattle.laws.specs.Fuel.{fuel-suc, fuel-zero}
 use Rattle.lapjv_definition.specs.Carr.{two, twoStep, twoFrom, carrTwo, Carrying, carrying, carrRow, carrTurn, carrFrom, carrDence}
 use Rattle.lapjv_definition.specs.Cost.{at, _⊖_, large}
 use Rattle.lapjv_definition.specs.Entry.{ownerOf, isFree}
-use Rattle.lapjv_definition.specs.Steps.{carrPick, carrBy, carrTake, carrStep}
+use Rattle.lapjv_definition.specs.Private.{carrPick, carrBy, carrTake, carrStep}
 use Rattle.lapjv_definition.specs.declared.Pick.{Pick}
 use Rattle.lapjv_definition.specs.declared.Two.{Two}
 use Rattle.lapjv_definition.proofs.CostLaws.{square-small}

@@ -166,9 +166,14 @@ module _ (n i : ℕ) (x : List ℕ) (s : Reduced) (o : RedOk n i x s) (hi : i < 
       go a ha (no e) = o .once a (omega arith)
 
   pub red-ok : (cost : List Float) (u : Bool) → RedOk n (i + 1) x (reduceStep n cost i (getD x i 0) u (s .freeRows) (s .nFreeRows) (s .v))
-  red-ok cost u = go (isFree (ownerOf n (getD x i 0))) refl u (set (s .v) (rowOf n (ownerOf n (getD x i 0))) (getD (s .v) (rowOf n (ownerOf n (getD x i 0))) nan ⊖ minFrom n cost i (rowOf n (ownerOf n (getD x i 0))) (s .v) n 0 large)) (length-set (s .v) (rowOf n (ownerOf n (getD x i 0))) _ ∙ o .len-v)
+  red-ok cost u =
+      go (isFree (ownerOf n (getD x i 0))) refl u
+      (set (s .v) (rowOf n (ownerOf n (getD x i 0))) (getD (s .v) (rowOf n (ownerOf n (getD x i 0))) nan ⊖ minFrom n cost i (rowOf n (ownerOf n (getD x i 0))) (s .v) n 0 large))
+      (length-set (s .v) (rowOf n (ownerOf n (getD x i 0))) _ ∙ o .len-v)
     where
-      go : (b : Bool) → isFree (ownerOf n (getD x i 0)) ≡ b → (u : Bool) (v : List Float) → length v ≡ n → RedOk n (i + 1) x (cond b (reduced (set (s .freeRows) (s .nFreeRows) i) (s .nFreeRows + 1) (s .v)) (cond u (reduced (s .freeRows) (s .nFreeRows) v) (reduced (s .freeRows) (s .nFreeRows) (s .v))))
+      go : (b : Bool) → isFree (ownerOf n (getD x i 0)) ≡ b → (u : Bool) (v : List Float) → length v ≡ n
+          → RedOk n (i + 1) x
+          (cond b (reduced (set (s .freeRows) (s .nFreeRows) i) (s .nFreeRows + 1) (s .v)) (cond u (reduced (s .freeRows) (s .nFreeRows) v) (reduced (s .freeRows) (s .nFreeRows) (s .v))))
       go true e u v lv = lists (free-true n (getD x i 0) e) (s .v) (o .len-v)
       go false e true v lv = skips (free-false n (getD x i 0) e) v lv
       go false e false v lv = skips (free-false n (getD x i 0) e) (s .v) (o .len-v)

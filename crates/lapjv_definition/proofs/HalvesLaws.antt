@@ -9,37 +9,37 @@ use lib.Dec.{eqb, ltb}
 use lib.ListN.{length, replicate, length-replicate}
 use lib.Ieee.{Float}
 use Rattle.laws.specs.Choose.{cond-no, cond-yes}
-use Rattle.lapjv_definition.specs.Halves.{fits, roundsOver, reduction, assigning}
+use Rattle.lapjv_definition.specs.Halves.{sized, roundsOver, reduction, assigning}
 use Rattle.lapjv_definition.specs.Invariant.{Square}
 use Rattle.lapjv_definition.specs.Lapjv.{Rounds, roundsAt, rounds, assignment, lapjv}
 
 module _ (n costs a b : ℕ) where
-  pub fits-none : n ≡ 0 → false ≡ fits n costs a b
-  unfolding fits
+  pub fits-none : n ≡ 0 → false ≡ sized n costs a b
+  unfolding sized
   fits-none e = rw (eq-eqb n 0 e)
 
   module _ (some : n ≡ 0 → ⊥) where
-    pub fits-big : 255 < n → false ≡ fits n costs a b
-    unfolding fits
+    pub fits-big : 255 < n → false ≡ sized n costs a b
+    unfolding sized
     fits-big h = rw (ne-eqb n 0 some, lt-ltb 255 n h)
 
     module _ (small : n ≤ 255) where
-      pub fits-costs : (costs ≡ n * n → ⊥) → false ≡ fits n costs a b
-      unfolding fits
+      pub fits-costs : (costs ≡ n * n → ⊥) → false ≡ sized n costs a b
+      unfolding sized
       fits-costs h = rw (ne-eqb n 0 some, le-ltb 255 n small, ne-eqb costs (n * n) h)
 
       module _ (ec : costs ≡ n * n) where
-        pub fits-first : (a ≡ n → ⊥) → false ≡ fits n costs a b
-        unfolding fits
+        pub fits-first : (a ≡ n → ⊥) → false ≡ sized n costs a b
+        unfolding sized
         fits-first h = rw (ne-eqb n 0 some, le-ltb 255 n small, eq-eqb costs (n * n) ec, ne-eqb a n h)
 
         module _ (ea : a ≡ n) where
-          pub fits-second : (b ≡ n → ⊥) → false ≡ fits n costs a b
-          unfolding fits
+          pub fits-second : (b ≡ n → ⊥) → false ≡ sized n costs a b
+          unfolding sized
           fits-second h = rw (ne-eqb n 0 some, le-ltb 255 n small, eq-eqb costs (n * n) ec, eq-eqb a n ea, ne-eqb b n h)
 
-          pub fits-all : b ≡ n → true ≡ fits n costs a b
-          unfolding fits
+          pub fits-all : b ≡ n → true ≡ sized n costs a b
+          unfolding sized
           fits-all h = rw (ne-eqb n 0 some, le-ltb 255 n small, eq-eqb costs (n * n) ec, eq-eqb a n ea, eq-eqb b n h)
 
 -- what a test that passes shows
@@ -48,8 +48,8 @@ pub record Fitting (n : ℕ) (cost : List Float) (a b : ℕ) : Type 0 where
   pub first : a ≡ n
   pub second : b ≡ n
 
-pub fitting : (n : ℕ) (cost : List Float) (a b : ℕ) → true ≡ fits n (length cost) a b → Fitting n cost a b
-unfolding fits
+pub fitting : (n : ℕ) (cost : List Float) (a b : ℕ) → true ≡ sized n (length cost) a b → Fitting n cost a b
+unfolding sized
 fitting n cost a b h =
     let (p, e₁) = cond-no (eqb n 0) _ _ _ never (back h) in
     let (q, e₂) = cond-no (ltb 255 n) _ _ _ never e₁ in
@@ -62,28 +62,28 @@ fitting n cost a b h =
       second = eqb-true b n t;
     }
   where
-    back : true ≡ fits n (length cost) a b → fits n (length cost) a b ≡ true
+    back : true ≡ sized n (length cost) a b → sized n (length cost) a b ≡ true
     back e = rw (← e)
 
     never : false ≡ true → ⊥
     never e = let z : _≡_ {A = ℕ} 0 1 = cc in omega arith
 
-pub fitted : {n : ℕ} {cost : List Float} {a b : ℕ} → Square n cost → a ≡ n → b ≡ n → true ≡ fits n (length cost) a b
+pub fitted : {n : ℕ} {cost : List Float} {a b : ℕ} → Square n cost → a ≡ n → b ≡ n → true ≡ sized n (length cost) a b
 fitted {n} {cost} {a} {b} q ea eb = fits-all n (length cost) a b (λ e. omega (arith, q .some)) (q .small) (q .whole) ea eb
 
 -- ---- the first half
 
 module _ (n : ℕ) (cost : List Float) (freeRows x y : List ℕ) (v : List Float) where
-  pub reduction-does : true ≡ fits n (length cost) (length x) (length y) → true ≡ fits n (length cost) (length freeRows) (length v)
+  pub reduction-does : true ≡ sized n (length cost) (length x) (length y) → true ≡ sized n (length cost) (length freeRows) (length v)
       → reduction n cost freeRows x y v ≡ roundsOver n cost freeRows
   unfolding reduction
   reduction-does p q = rw (← p, ← q)
 
-  pub reduction-not : false ≡ fits n (length cost) (length x) (length y) → roundsAt 0 0 freeRows x y v ≡ reduction n cost freeRows x y v
+  pub reduction-not : false ≡ sized n (length cost) (length x) (length y) → roundsAt 0 0 freeRows x y v ≡ reduction n cost freeRows x y v
   unfolding reduction
   reduction-not p = rw (← p)
 
-  pub reduction-nor : true ≡ fits n (length cost) (length x) (length y) → false ≡ fits n (length cost) (length freeRows) (length v)
+  pub reduction-nor : true ≡ sized n (length cost) (length x) (length y) → false ≡ sized n (length cost) (length freeRows) (length v)
       → roundsAt 0 0 freeRows x y v ≡ reduction n cost freeRows x y v
   unfolding reduction
   reduction-nor p q = rw (← p, ← q)
@@ -99,10 +99,10 @@ reduction-zeros {n} {cost} {freeRows} x y v q lx ly ef lv g =
 -- ---- both
 
 module _ (n : ℕ) (cost : List Float) (x y : List ℕ) where
-  pub assigning-does : true ≡ fits n (length cost) (length x) (length y) → assigning n cost x y ≡ lapjv n cost
+  pub assigning-does : true ≡ sized n (length cost) (length x) (length y) → assigning n cost x y ≡ lapjv n cost
   unfolding assigning
   assigning-does p = rw (← p)
 
-  pub assigning-not : false ≡ fits n (length cost) (length x) (length y) → assignment 0 x y 0 0 ≡ assigning n cost x y
+  pub assigning-not : false ≡ sized n (length cost) (length x) (length y) → assignment 0 x y 0 0 ≡ assigning n cost x y
   unfolding assigning
   assigning-not p = rw (← p)

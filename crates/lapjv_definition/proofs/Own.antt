@@ -15,13 +15,10 @@ use lib.Ieee.{Float}
 use Rattle.laws.specs.Total.{total, is, total-in, total-out, total-snoc, total-cons, total-ge, is-same, is-other}
 use Rattle.lapjv_definition.specs.Carr.{Carrying, carrying}
 use Rattle.lapjv_definition.specs.Invariant.{taken}
-use Rattle.lapjv_definition.specs.Steps.{carrBy, carrTake}
+use Rattle.lapjv_definition.specs.Private.{carrBy, carrTake}
 use Rattle.lapjv_definition.proofs.SearchLaws.{taken-row, taken-none}
 
 -- a column's row, if it has one, knows the column
-pub Back : ℕ → List ℕ → List ℕ → Type 0
-Back n x y = (j : ℕ) → j < n → getD y j 0 < n → getD x (getD y j 0) 0 ≡ j
-
 pub record Own (n nFreeRows : ℕ) (s : Carrying) : Type 0 where
   pub once : (i : ℕ) → i < n → total (is i) (s .y) n 0 + total (is i) (s .freeRows) (s .newFreeRows) 0 + total (is i) (s .freeRows) (nFreeRows - s .current) (s .current) ≡ 1
   pub back : (j : ℕ) → j < n → getD (s .y) j 0 < n → getD (s .x) (getD (s .y) j 0) 0 ≡ j

@@ -17,7 +17,7 @@ use Rattle.lapjv_definition.specs.Ccrt.{Prices, prices, rowsFrom, colsFr
 use Rattle.lapjv_definition.specs.Cost.{large}
 use Rattle.lapjv_definition.specs.Invariant.{taken, tri, CaOk}
 use Rattle.lapjv_definition.specs.Halves.{roundsOver}
-use Rattle.lapjv_definition.specs.Lapjv.{Rounds, roundsAt, rounds, Assignment, assignment, lapjv}
+use Rattle.lapjv_definition.specs.Lapjv.{Rounds, roundsAt, rounds, assignment, lapjv}
 use Rattle.lapjv_definition.proofs.CaEnds.{Open, ca-open, ca-passes}
 use Rattle.lapjv_definition.proofs.CarrEnds.{Ended, carr-ends}
 use Rattle.lapjv_definition.proofs.CarrLaws.{CarrOk}
@@ -42,6 +42,8 @@ full n y (suc m) a e k p q = go (ℕ-discrete k a) (decLt (getD y a 0) n) (full 
 
 paired : (n nFreeRows : ℕ) (freeRows : List ℕ) (s : Assigned) → CaOk n nFreeRows freeRows nFreeRows s → Paired n (s .x) (s .y)
 paired n nFreeRows freeRows s o = record {
+  len-x = o .len-x;
+  len-y = o .len-y;
   rows = λ i hi. row i hi (total-find i (s .y) n 0 (omega (arith, o .once i hi, total-zero (is i) freeRows (nFreeRows - nFreeRows) nFreeRows (omega arith))));
   cols = λ j hj. (all j hj, o .back j hj (all j hj));
 }

@@ -21,7 +21,7 @@ pub record Kept (n k : ℕ) (s : Scanning) : Type 0 where
   pub low : s .hi ≤ k + 1
   pub none : n ≤ s .finalJ → s .finalJ ≡ n
 
-pub scanAt-kept : (n i k j : ℕ) (cred : Float) (p q r : Bool) (d : List Float) (cols pred : List ℕ) (hi : ℕ) → Below n cols → k < length cols → hi ≤ k → j < n
+scanAt-kept : (n i k j : ℕ) (cred : Float) (p q r : Bool) (d : List Float) (cols pred : List ℕ) (hi : ℕ) → Below n cols → k < length cols → hi ≤ k → j < n
     → Kept n k (scanAt n i k j cred p q r d cols pred hi)
 scanAt-kept n i k j cred true true true d cols pred hi b hk hh hj = record { below = b; low = omega arith; none = omega arith }
 scanAt-kept n i k j cred true true false d cols pred hi b hk hh hj = record { below = swapped-below n cols k hi b hk (omega arith); low = omega arith; none = omega arith }

@@ -91,7 +91,7 @@ pub record ScanOk (n start : ℕ) (y : List ℕ) (lo i k : ℕ) (s : Scanning) :
   pub hit : s .finalJ < n → FoundOk n start y lo (s .cols) (s .pred) (s .finalJ)
 
 module _ (n start : ℕ) (y : List ℕ) (lo : ℕ) where
-  pub scanAt-ok : (hi : ℕ) (cols pred : List ℕ) (o : SearchOk n start y lo hi cols pred) (i k : ℕ) (cred : Float) (d : List Float) → From y cols start lo i → hi ≤ k → k < n
+  scanAt-ok : (hi : ℕ) (cols pred : List ℕ) (o : SearchOk n start y lo hi cols pred) (i k : ℕ) (cred : Float) (d : List Float) → From y cols start lo i → hi ≤ k → k < n
       → (p q r : Bool) → isFree (ownerOf n (getD y (getD cols k 0) 0)) ≡ r
       → ScanOk n start y lo i (k + 1) (scanAt n i k (getD cols k 0) cred p q r d cols pred hi)
   scanAt-ok hi cols pred o i k cred d f hk kn true true true e = record {

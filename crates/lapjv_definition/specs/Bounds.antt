@@ -8,12 +8,14 @@ use lib.Ieee.{Float}
 use Rattle.lapjv_definition.specs.Ca.{augmentFrom, Assigned, assigned, caFrom}
 use Rattle.lapjv_definition.specs.Carr.{carrDence}
 use Rattle.lapjv_definition.specs.Find.{findDense}
-use Rattle.lapjv_definition.specs.Lapjv.{Rounds, rounds, lapjv}
+use Rattle.lapjv_definition.specs.Lapjv.{rounds, lapjv}
 use Rattle.lapjv_definition.specs.Path.{Search, searchStart, searchFrom, findPathDense}
 use Rattle.lapjv_definition.specs.Scan.{Scanning, scanDense}
 
--- rows and columns are paired one to one: x tells the column of each row, and y the row of each column
+-- rows and columns are paired one to one: both lists have n entries, x tells the column of each row, and y the row of each column
 pub record Paired (n : ℕ) (x y : List ℕ) : Type 0 where
+  pub len-x : length x ≡ n
+  pub len-y : length y ≡ n
   pub rows : (i : ℕ) → i < n → (getD x i 0 < n) × (getD y (getD x i 0) 0 ≡ i)
   pub cols : (j : ℕ) → j < n → (getD y j 0 < n) × (getD x (getD y j 0) 0 ≡ j)
 

@@ -6,7 +6,7 @@ use lib.Dec.{eqb}
 use lib.ListN.{getD, set}
 use lib.Ieee.{Float}
 use Rattle.lapjv_definition.specs.Entry.{ownerOf, rowOf}
-use Rattle.lapjv_definition.specs.Path.{Pathed, findPathDense}
+use Rattle.lapjv_definition.specs.Path.{findPathDense}
 
 -- ---- lines 303 to 314: back along the path, from its free column j to freeRow. Row pred[j] takes column j, and the column that it had is the next j
 

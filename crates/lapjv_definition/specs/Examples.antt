@@ -10,7 +10,7 @@ use Rattle.lapjv_definition.specs.Ca.{caFrom}
 use Rattle.lapjv_definition.specs.Carr.{twoFrom, carrTwo, carrTurn, carrFrom}
 use Rattle.lapjv_definition.specs.Ccrt.{rowFrom, rowsFrom, colsFrom, minFrom, reduceFrom}
 use Rattle.lapjv_definition.specs.Entry.{ownerOf, isFree, rowOf}
-use Rattle.lapjv_definition.specs.Lapjv.{Assignment, assignment, roundsFrom, lapjv}
+use Rattle.lapjv_definition.specs.Lapjv.{assignment, roundsFrom, lapjv}
 use Rattle.lapjv_definition.specs.Path.{searchStep, searchFrom, findPathDense}
 
 -- 0.5

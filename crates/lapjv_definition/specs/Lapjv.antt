@@ -6,9 +6,9 @@ use Prim.Native.Nat.{ℕ, zero, suc, _+_}
 use lib.Dec.{ltb}
 use lib.ListN.{replicate}
 use lib.Ieee.{Float}
-use Rattle.lapjv_definition.specs.Ca.{Assigned, caDense}
-use Rattle.lapjv_definition.specs.Carr.{Carrying, carrDence}
-use Rattle.lapjv_definition.specs.Ccrt.{Ccrt, ccrtDense}
+use Rattle.lapjv_definition.specs.Ca.{caDense}
+use Rattle.lapjv_definition.specs.Carr.{carrDence}
+use Rattle.lapjv_definition.specs.Ccrt.{ccrtDense}
 
 -- ---- lines 344 to 347: while ret > 0 && i < 2
 

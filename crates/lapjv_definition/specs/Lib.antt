@@ -1,5 +1,5 @@
 -- What a reader must believe of the assignment, in the order of lapjv.rs: Cost, Entry, Ccrt, Carr, Find, Scan, Path, Ca, Lapjv; its two halves, Halves; then a known result, and
--- the theorems, Bounds. Steps and Invariant are cited by the contracts of private functions alone.
+-- the theorems, Bounds. Private and Invariant are cited by the contracts of private functions alone.
 pub mod Cost
 pub mod Entry
 pub mod Ccrt
@@ -12,5 +12,5 @@ pub mod Lapjv
 pub mod Halves
 pub mod Examples
 pub mod Bounds
-pub mod Steps
+pub mod Private
 pub mod Invariant

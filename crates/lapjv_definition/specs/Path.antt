@@ -8,8 +8,8 @@ use lib.Ieee.{Float, nan, binary64, add}
 use Rattle.laws.specs.Tab.{tab}
 use Rattle.lapjv_definition.specs.Cost.{at, _⊖_}
 use Rattle.lapjv_definition.specs.Entry.{ownerOf, isFree}
-use Rattle.lapjv_definition.specs.Find.{Finding, findDense}
-use Rattle.lapjv_definition.specs.Scan.{Scanning, scanning, Scans, scanDense}
+use Rattle.lapjv_definition.specs.Find.{findDense}
+use Rattle.lapjv_definition.specs.Scan.{Scanning, scanning, scanDense}
 
 -- d, cols, pred, hi and final_j are in st; scans are those of all calls of scan_dense
 pub record Search : Type 0 where

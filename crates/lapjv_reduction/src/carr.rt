@@ -8,7 +8,7 @@ ghost use lib.ListN.{length, getD, set};
 ghost use lib.Ieee.{Float, lt};
 ghost use Rattle.lapjv_definition.specs.Carr.{twoStep, carrTwo, carrying, carrTurn, carrDence};
 ghost use Rattle.lapjv_definition.specs.Invariant.{Square};
-ghost use Rattle.lapjv_definition.specs.Steps.{carrTake, carrPick};
+ghost use Rattle.lapjv_definition.specs.Private.{carrTake, carrPick};
 use crate::cost::LARGE;
 use crate::cost::at;
 use crate::entry::is_free;

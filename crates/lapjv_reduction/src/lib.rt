@@ -3,7 +3,7 @@
 ghost use mathlib.Core.Path.{_≡_};
 ghost use mathlib.Core.Bool.{true};
 ghost use lib.ListN.{length, replicate};
-ghost use Rattle.lapjv_definition.specs.Halves.{fits, roundsOver, reduction};
+ghost use Rattle.lapjv_definition.specs.Halves.{sized, roundsOver, reduction};
 ghost use Rattle.lapjv_definition.specs.Invariant.{Square};
 ghost use Rattle.lapjv_definition.specs.Lapjv.{roundsAt};
 
@@ -23,7 +23,7 @@ pub struct Rounds {
 
 // Whether the side is 1 to 255, the costs are n x n, and two slices n long.
 pub fn fits(n: usize, costs: usize, a: usize, b: usize) -> bool
-    ensures { λ r. ⌜ r ≡ fits n costs a b ⌝ }
+    ensures { λ r. ⌜ r ≡ sized n costs a b ⌝ }
 {
     if n == 0 {
         return false;

@@ -1,6 +1,6 @@
 -- Whether each element of a list passes a test, also one that looks at what the elements before left (`chain`): what a loop that leaves at the first failure gives. Assumes nothing.
 use mathlib.Core.Path.{_≡_, refl, sym, ap, _∙_}
-use mathlib.Core.Bool.{Bool, true, false, cond, _&&_}
+use mathlib.Core.Bool.{Bool, true, false, cond, _&&_, and-assoc}
 use mathlib.Core.List.{List, [], _∷_, _++_}
 use Prim.Native.Nat.{ℕ, zero, suc, _+_, _≤_, _<_, zero-le}
 use native.Mathlib.Nat.{not-suc-le-zero, le-of-suc-le-suc}
@@ -23,10 +23,6 @@ module _ {X : Type 0} (p : X → Bool) where
   every-at [] e i d h = absurd (not-suc-le-zero h)
   every-at (x ∷ xs) e zero d h = and-left (p x) (every xs) e
   every-at (x ∷ xs) e (suc i) d h = every-at xs (and-right (p x) (every xs) e) i d (le-of-suc-le-suc h)
-
-  and-assoc : (a b c : Bool) → ((a && b) && c) ≡ (a && (b && c))
-  and-assoc true b c = refl
-  and-assoc false b c = refl
 
   pub every-append : (xs ys : List X) → every (xs ++ ys) ≡ (every xs && every ys)
   unfolding every

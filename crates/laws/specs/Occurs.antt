@@ -4,6 +4,7 @@ use mathlib.Core.Bool.{Bool, true, false, cond}
 use mathlib.Core.List.{List, [], _∷_, _++_}
 use Prim.Native.Nat.{ℕ, zero, suc, _+_, _≤_, _<_, zero-le}
 use native.Mathlib.Nat.{le-refl, le-of-eq, add-zero, zero-add, le-trans, not-suc-le-zero, le-of-suc-le-suc}
+use native.Mathlib.Numerals.{one-add}
 use native.Mathlib.Omega.{arith}
 use lib.Dec.{ltb, eqb}
 use lib.ListN.{length, getD}
@@ -54,48 +55,45 @@ eqb-sym a b = by-cases (eqb b a) refl
     by-cases false e = ne-eqb a b (λ (q : a ≡ b). eqb-false b a e (sym q))
 
 -- f 0 + .. + f (n - 1)
-unfoldable pub sum : (ℕ → ℕ) → ℕ → ℕ
-sum f zero = 0
-sum f (suc n) = sum f n + f n
+unfoldable pub sumUpto : (ℕ → ℕ) → ℕ → ℕ
+sumUpto f zero = 0
+sumUpto f (suc n) = sumUpto f n + f n
 
-sum-add : (f g : ℕ → ℕ) (n : ℕ) → sum (λ i. f i + g i) n ≡ sum f n + sum g n
-unfolding sum
+sum-add : (f g : ℕ → ℕ) (n : ℕ) → sumUpto (λ i. f i + g i) n ≡ sumUpto f n + sumUpto g n
+unfolding sumUpto
 sum-add f g zero = refl
 sum-add f g (suc n) = let e = sum-add f g n in omega arith
 
-sum-zero : (n : ℕ) → sum (λ i. 0) n ≡ 0
-unfolding sum
+sum-zero : (n : ℕ) → sumUpto (λ i. 0) n ≡ 0
+unfolding sumUpto
 sum-zero zero = refl
 sum-zero (suc n) = let e = sum-zero n in omega arith
 
-sum-ones : (f : ℕ → ℕ) (n : ℕ) → ((i : ℕ) → f i ≤ 1) → sum f n ≤ n
-unfolding sum
+sum-ones : (f : ℕ → ℕ) (n : ℕ) → ((i : ℕ) → f i ≤ 1) → sumUpto f n ≤ n
+unfolding sumUpto
 sum-ones f zero h = zero-le
 sum-ones f (suc n) h = let a = sum-ones f n h in let b = h n in omega arith
 
-sum-each : (f : ℕ → ℕ) (n : ℕ) → ((i : ℕ) → i < n → f i ≡ 1) → sum f n ≡ n
-unfolding sum
+sum-each : (f : ℕ → ℕ) (n : ℕ) → ((i : ℕ) → i < n → f i ≡ 1) → sumUpto f n ≡ n
+unfolding sumUpto
 sum-each f zero h = refl
 sum-each f (suc n) h = let a = sum-each f n (λ (i : ℕ) (l : i < n). h i (omega arith)) in let b = h n (le-refl (suc n)) in omega arith
 
-sum-count : (x n : ℕ) → sum (λ b. bit (eqb b x)) n ≡ count (λ b. eqb x b) n
-unfolding sum count
+sum-count : (x n : ℕ) → sumUpto (λ b. bit (eqb b x)) n ≡ count (λ b. eqb x b) n
+unfolding sumUpto count
 sum-count x zero = refl
 sum-count x (suc n) = rw (sum-count x n, eqb-sym n x)
 
-sum-is : (x n : ℕ) → x < n → sum (λ b. bit (eqb b x)) n ≡ 1
+sum-is : (x n : ℕ) → x < n → sumUpto (λ b. bit (eqb b x)) n ≡ 1
 sum-is x n h = sum-count x n ∙ count-is x n ∙ rw (lt-ltb x n h)
 
-occurs-sum : (xs : List ℕ) (n : ℕ) → ((b : ℕ) → 0 < occurs b xs → b < n) → length xs ≡ sum (λ b. occurs b xs) n
+occurs-sum : (xs : List ℕ) (n : ℕ) → ((b : ℕ) → 0 < occurs b xs → b < n) → length xs ≡ sumUpto (λ b. occurs b xs) n
 unfolding occurs
 occurs-sum [] n h = sym (sum-zero n)
 occurs-sum (x ∷ xs) n h =
     let here : x < n = h x (rw (eq-eqb x x refl) (omega arith)) in
-    let r : length xs ≡ sum (λ b. occurs b xs) n = occurs-sum xs n (λ (b : ℕ) (q : 0 < occurs b xs). h b (omega arith)) in
+    let r : length xs ≡ sumUpto (λ b. occurs b xs) n = occurs-sum xs n (λ (b : ℕ) (q : 0 < occurs b xs). h b (omega arith)) in
     sym (sum-add (λ b. bit (eqb b x)) (λ b. occurs b xs) n ∙ rw (sum-is x n here, ← r) (one-add (length xs)))
-  where
-    one-add : (k : ℕ) → 1 + k ≡ suc k
-    one-add k = omega arith
 
 -- where only numbers below n may stand
 inside : (xs : List ℕ) (n b : ℕ) → occurs b xs ≤ bit (ltb b n) → 0 < occurs b xs → b < n

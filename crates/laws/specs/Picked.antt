@@ -1,6 +1,6 @@
 -- Indices picked by a test and mapped: what is folded over them, and what is among them. Assumes nothing.
 use mathlib.Core.Path.{_≡_, refl, sym, ap, _∙_}
-use mathlib.Core.Bool.{Bool, true, false, cond, _&&_, _||_}
+use mathlib.Core.Bool.{Bool, true, false, cond, _&&_, _||_, or-true}
 use mathlib.Core.List.{List, [], _∷_, _++_, map, map-append, foldl, foldl-append}
 use Prim.Native.Nat.{ℕ, zero, suc, _<_}
 use native.Mathlib.Nat.{le-refl}
@@ -108,16 +108,12 @@ elem-either f p q k (x ∷ xs) = by-cases (p x) (q x) (eqb k (f x)) refl (elem-e
     ws : List ℕ
     ws = map f (sieve (λ y. p y || q y) xs)
 
-    or-true : (b : Bool) → true ≡ (b || true)
-    or-true true = refl
-    or-true false = refl
-
     by-cases : (a b e : Bool) → eqb k (f x) ≡ e → (elem k us || elem k vs) ≡ elem k ws
         → (elem k (map f (cond a (x ∷ sieve p xs) (sieve p xs))) || elem k (map f (cond b (x ∷ sieve q xs) (sieve q xs)))) ≡ elem k (map f (cond (a || b) (x ∷ sieve (λ y. p y || q y) xs) (sieve (λ y. p y || q y) xs)))
     by-cases true true true m h = rw m
     by-cases true true false m h = rw m h
     by-cases true false true m h = rw m
     by-cases true false false m h = rw m h
-    by-cases false true true m h = rw m (sym (or-true (elem k us)))
+    by-cases false true true m h = rw m (or-true (elem k us))
     by-cases false true false m h = rw m h
     by-cases false false e m h = h

@@ -11,15 +11,22 @@ use Rattle.records.specs.declared.box_record.BoxAnswer.the-variants.{Rea
 use Rattle.records.specs.Field.{le, value, five, part, floatAt}
 use Rattle.records.specs.Written.{WritesRecord}
 
-abbrev pub boxBytes : BoxRecord → List ℕ
-boxBytes r = le 4 (r .frame) ++ five (r .left) (r .top) (r .width) (r .height) (r .score)
+abbrev pub boxBytes : ℕ
+boxBytes = 24
+
+-- left, top, width, height, score: the floats of a box in a frame's slice
+abbrev pub boxValues : ℕ
+boxValues = 5
+
+abbrev pub bytesOfBox : BoxRecord → List ℕ
+bytesOfBox r = le 4 (r .frame) ++ five (r .left) (r .top) (r .width) (r .height) (r .score)
 
 abbrev pub boxOf : List ℕ → BoxRecord
 boxOf l = record { frame = value (part 0 4 l); left = floatAt 4 l; top = floatAt 8 l; width = floatAt 12 l; height = floatAt 16 l; score = floatAt 20 l }
 
 -- record k of a slice, where it has more than k whole ones
 unfoldable pub boxAt : List ℕ → ℕ → BoxAnswer
-boxAt l k = cond (ltb k (length l / 24)) (Read (boxOf (part (k * 24) 24 l))) Short
+boxAt l k = cond (ltb k (length l / boxBytes)) (Read (boxOf (part (k * boxBytes) boxBytes l))) Short
 
 abbrev pub WritesBox : BoxRecord → ℕ → List ℕ → Written → List ℕ → Type 0
-WritesBox r k out w out′ = WritesRecord 24 k (boxBytes r) out w out′
+WritesBox r k out w out′ = WritesRecord boxBytes k (bytesOfBox r) out w out′

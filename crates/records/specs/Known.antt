@@ -6,8 +6,8 @@ use Rattle.records.specs.declared.box_record.BoxRecord.{BoxRecord}
 use Rattle.records.specs.declared.track_record.TrackRecord.{TrackRecord}
 use Rattle.records.specs.Field.{le, bits, float}
 use Rattle.records.specs.Text.{glyph, digits, placesUpTo, decimal, hex}
-use Rattle.records.specs.BoxRecord.{boxBytes}
-use Rattle.records.specs.TrackRecord.{trackBytes}
+use Rattle.records.specs.BoxRecord.{bytesOfBox}
+use Rattle.records.specs.TrackRecord.{bytesOfTrack}
 use Rattle.records.specs.Line.{line, refusedLine, refused, ofRecord}
 
 -- 1, 10, 20, 32, 64, score 0.75
@@ -18,11 +18,11 @@ lone = record { frame = 1; left = float 0x4120_0000; top = float 0x41a0_0000; wi
 abbrev pub loneTrack : TrackRecord
 loneTrack = record { frame = 1; id = 1; left = float 0x4120_0000; top = float 0x41a0_0000; width = float 0x4200_0000; height = float 0x4280_0000; confidence = float 0x3ef4_e351 }
 
-pub box-known : boxBytes lone ≡ 1 ∷ 0 ∷ 0 ∷ 0 ∷ 0 ∷ 0 ∷ 0x20 ∷ 0x41 ∷ 0 ∷ 0 ∷ 0xa0 ∷ 0x41 ∷ 0 ∷ 0 ∷ 0 ∷ 0x42 ∷ 0 ∷ 0 ∷ 0x80 ∷ 0x42 ∷ 0 ∷ 0 ∷ 0x40 ∷ 0x3f ∷ []
+pub box-known : bytesOfBox lone ≡ 1 ∷ 0 ∷ 0 ∷ 0 ∷ 0 ∷ 0 ∷ 0x20 ∷ 0x41 ∷ 0 ∷ 0 ∷ 0xa0 ∷ 0x41 ∷ 0 ∷ 0 ∷ 0 ∷ 0x42 ∷ 0 ∷ 0 ∷ 0x80 ∷ 0x42 ∷ 0 ∷ 0 ∷ 0x40 ∷ 0x3f ∷ []
 unfolding le ofBits toBits
 box-known = refl
 
-pub track-known : trackBytes loneTrack
+pub track-known : bytesOfTrack loneTrack
     ≡ 1 ∷ 0 ∷ 0 ∷ 0 ∷ 1 ∷ 0 ∷ 0 ∷ 0 ∷ 0 ∷ 0 ∷ 0 ∷ 0 ∷ 0 ∷ 0 ∷ 0x20 ∷ 0x41 ∷ 0 ∷ 0 ∷ 0xa0 ∷ 0x41 ∷ 0 ∷ 0 ∷ 0 ∷ 0x42 ∷ 0 ∷ 0 ∷ 0x80 ∷ 0x42 ∷ 0x51 ∷ 0xe3 ∷ 0xf4 ∷ 0x3e ∷ []
 unfolding le ofBits toBits
 track-known = refl

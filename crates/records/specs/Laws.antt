@@ -26,9 +26,9 @@ use Rattle.records.specs.declared.Written.the-variants as written
 use Rattle.records.specs.Written.{WritesRecord, WritesText}
 use Rattle.records.specs.Field.{le, value, bits, part}
 use Rattle.records.specs.Text.{places, decimal, hex}
-use Rattle.records.specs.BoxRecord.{boxBytes, boxOf, boxAt}
-use Rattle.records.specs.TrackRecord.{trackBytes, trackOf, trackAt}
-use Rattle.records.specs.Line.{line, refusedLine}
+use Rattle.records.specs.BoxRecord.{boxBytes, bytesOfBox, boxOf, boxAt}
+use Rattle.records.specs.TrackRecord.{trackBytes, bytesOfTrack, trackOf, trackAt}
+use Rattle.records.specs.Line.{line, lineBytes, refusedLine}
 use Rattle.records.specs.Laws.Digits.{few-below, most-places, enough-places, fewest-places, readAs, read-digits}
 use Rattle.records.specs.Laws.Lengths.{length-box, length-track, length-decimal, length-line, length-refused}
 use Rattle.records.specs.Laws.Fields.{box-fields, track-fields}
@@ -53,12 +53,12 @@ pub record TrackFits (t : TrackRecord) : Type 0 where
   pub height : T (fits binary32 (t .height))
   pub confidence : T (fits binary32 (t .confidence))
 
-pub box-decode : (r : BoxRecord) → BoxFits r → boxOf (boxBytes r) ≡ r
+pub box-decode : (r : BoxRecord) → BoxFits r → boxOf (bytesOfBox r) ≡ r
 unfolding le
 box-decode r h =
     box-fields (value-le 4 (r .frame) (h .frame)) (float-le (r .left) (h .left)) (float-le (r .top) (h .top)) (float-le (r .width) (h .width)) (float-le (r .height) (h .height)) (float-le (r .score) (h .score))
 
-pub track-decode : (t : TrackRecord) → TrackFits t → trackOf (trackBytes t) ≡ t
+pub track-decode : (t : TrackRecord) → TrackFits t → trackOf (bytesOfTrack t) ≡ t
 unfolding le
 track-decode t h =
     track-fields (value-le 4 (t .frame) (h .frame)) (value-le 8 (t .id) (h .id)) (float-le (t .left) (h .left)) (float-le (t .top) (h .top)) (float-le (t .width) (h .width)) (float-le (t .height) (h .height))
@@ -69,29 +69,29 @@ nth-part : (s k : ℕ) (xs l : List ℕ) → length xs ≡ s → k * s + s ≤ l
 nth-part s k xs l e h =
     rw (drop-at (take (k * s) l) (xs ++ drop (k * s + length xs) l) (k * s) (length-take-le (k * s) l (omega arith))) (take-at xs (drop (k * s + length xs) l) s e)
 
-pub box-written : (r : BoxRecord) (k : ℕ) (l : List ℕ) → BoxFits r → k < length l / 24 → boxAt (splice l (k * 24) (boxBytes r)) k ≡ box-answer.Read r
+pub box-written : (r : BoxRecord) (k : ℕ) (l : List ℕ) → BoxFits r → k < length l / boxBytes → boxAt (splice l (k * boxBytes) (bytesOfBox r)) k ≡ box-answer.Read r
 unfolding boxAt
 box-written r k l h q =
     let n = length-box r in
-    let e : length (splice l (k * 24) (boxBytes r)) ≡ length l = length-splice l (k * 24) (boxBytes r) (omega arith) in
-    rw (e, lt-ltb k (length l / 24) q) (ap box-answer.Read (ap boxOf (nth-part 24 k (boxBytes r) l n (omega arith)) ∙ box-decode r h))
+    let e : length (splice l (k * boxBytes) (bytesOfBox r)) ≡ length l = length-splice l (k * boxBytes) (bytesOfBox r) (omega arith) in
+    rw (e, lt-ltb k (length l / boxBytes) q) (ap box-answer.Read (ap boxOf (nth-part boxBytes k (bytesOfBox r) l n (omega arith)) ∙ box-decode r h))
 
-pub track-written : (t : TrackRecord) (k : ℕ) (l : List ℕ) → TrackFits t → k < length l / 32 → trackAt (splice l (k * 32) (trackBytes t)) k ≡ track-answer.Read t
+pub track-written : (t : TrackRecord) (k : ℕ) (l : List ℕ) → TrackFits t → k < length l / trackBytes → trackAt (splice l (k * trackBytes) (bytesOfTrack t)) k ≡ track-answer.Read t
 unfolding trackAt
 track-written t k l h q =
     let n = length-track t in
-    let e : length (splice l (k * 32) (trackBytes t)) ≡ length l = length-splice l (k * 32) (trackBytes t) (omega arith) in
-    rw (e, lt-ltb k (length l / 32) q) (ap track-answer.Read (ap trackOf (nth-part 32 k (trackBytes t) l n (omega arith)) ∙ track-decode t h))
+    let e : length (splice l (k * trackBytes) (bytesOfTrack t)) ≡ length l = length-splice l (k * trackBytes) (bytesOfTrack t) (omega arith) in
+    rw (e, lt-ltb k (length l / trackBytes) q) (ap track-answer.Read (ap trackOf (nth-part trackBytes k (bytesOfTrack t) l n (omega arith)) ∙ track-decode t h))
 
 -- ---- bytes that are read and written again are the same, but for the four bytes of each f32 that are a NaN's pattern: they become those of the one NaN
 
-pub box-encode : (l : List ℕ) → AreBytes l → length l ≡ 24
-    → boxBytes (boxOf l) ≡ part 0 4 l ++ (settled (part 4 4 l) ++ (settled (part 8 4 l) ++ (settled (part 12 4 l) ++ (settled (part 16 4 l) ++ settled (part 20 4 l)))))
+pub box-encode : (l : List ℕ) → AreBytes l → length l ≡ boxBytes
+    → bytesOfBox (boxOf l) ≡ part 0 4 l ++ (settled (part 4 4 l) ++ (settled (part 8 4 l) ++ (settled (part 12 4 l) ++ (settled (part 16 4 l) ++ settled (part 20 4 l)))))
 box-encode l h n =
     rw (le-part 0 4 l h (omega arith), settled-part 4 l h (omega arith), settled-part 8 l h (omega arith), settled-part 12 l h (omega arith), settled-part 16 l h (omega arith), settled-part 20 l h (omega arith))
 
-pub track-encode : (l : List ℕ) → AreBytes l → length l ≡ 32
-    → trackBytes (trackOf l)
+pub track-encode : (l : List ℕ) → AreBytes l → length l ≡ trackBytes
+    → bytesOfTrack (trackOf l)
     ≡ part 0 4 l ++ (part 4 8 l ++ (settled (part 12 4 l) ++ (settled (part 16 4 l) ++ (settled (part 20 4 l) ++ (settled (part 24 4 l) ++ settled (part 28 4 l))))))
 track-encode l h n =
     rw (le-part 0 4 l h (omega arith), le-part 4 8 l h (omega arith), settled-part 12 l h (omega arith), settled-part 16 l h (omega arith), settled-part 20 l h (omega arith), settled-part 24 l h (omega arith), settled-part 28 l h (omega arith))
@@ -104,15 +104,15 @@ pub record NoNans (at : ℕ) (l : List ℕ) : Type 0 where
   pub fourth : nanBits binary32 (value (part (at + 12) 4 l)) ≡ false
   pub fifth : nanBits binary32 (value (part (at + 16) 4 l)) ≡ false
 
-pub box-same : (l : List ℕ) → AreBytes l → length l ≡ 24 → NoNans 4 l → boxBytes (boxOf l) ≡ l
+pub box-same : (l : List ℕ) → AreBytes l → length l ≡ boxBytes → NoNans 4 l → bytesOfBox (boxOf l) ≡ l
 box-same l h n m =
     box-encode l h n
-    ∙ rw (m .first, m .second, m .third, m .fourth, m .fifth, rejoin l 16 4 4, rejoin l 12 4 8, rejoin l 8 4 12, rejoin l 4 4 16, rejoin l 0 4 20) (take-all 24 l (le-of-eq n))
+    ∙ rw (m .first, m .second, m .third, m .fourth, m .fifth, rejoin l 16 4 4, rejoin l 12 4 8, rejoin l 8 4 12, rejoin l 4 4 16, rejoin l 0 4 20) (take-all boxBytes l (le-of-eq n))
 
-pub track-same : (l : List ℕ) → AreBytes l → length l ≡ 32 → NoNans 12 l → trackBytes (trackOf l) ≡ l
+pub track-same : (l : List ℕ) → AreBytes l → length l ≡ trackBytes → NoNans 12 l → bytesOfTrack (trackOf l) ≡ l
 track-same l h n m =
     track-encode l h n
-    ∙ rw (m .first, m .second, m .third, m .fourth, m .fifth, rejoin l 24 4 4, rejoin l 20 4 8, rejoin l 16 4 12, rejoin l 12 4 16, rejoin l 4 8 20, rejoin l 0 4 28) (take-all 32 l (le-of-eq n))
+    ∙ rw (m .first, m .second, m .third, m .fourth, m .fifth, rejoin l 24 4 4, rejoin l 20 4 8, rejoin l 16 4 12, rejoin l 12 4 16, rejoin l 4 8 20, rejoin l 0 4 28) (take-all trackBytes l (le-of-eq n))
 
 -- ---- digits are read back as the number; a number of two digits or more has no zero in front
 
@@ -134,6 +134,9 @@ decimal-most n = rw (length-decimal n) (most-places n)
 
 pub line-most : (t : TrackRecord) → t .frame < 2 ^ 32 → length (line t) ≤ 77
 line-most t h = let n = length-line t in let a = few-below 19 9 (t .frame) (lt-of-lt-of-le h (lit≤ tt)) in let b = most-places (t .id) in omega arith
+
+pub line-room : (t : TrackRecord) → length (line t) ≤ lineBytes
+line-room t = let n = length-line t in let a = most-places (t .frame) in let b = most-places (t .id) in omega arith
 
 pub refused-most : (number nth : ℕ) → length (refusedLine number nth) ≤ 57
 refused-most number nth = let n = length-refused number nth in let a = most-places number in let b = most-places nth in omega arith

@@ -18,6 +18,10 @@ fiveHex a b c d e = spaced (hex a) ++ (spaced (hex b) ++ (spaced (hex c) ++ (spa
 unfoldable pub line : TrackRecord → List ℕ
 line t = spaced (decimal (t .frame)) ++ (spaced (decimal (t .id)) ++ fiveHex (t .left) (t .top) (t .width) (t .height) (t .confidence))
 
+-- the most bytes that a line of a track has: two numbers of 20 digits, five of 8, and seven separators
+abbrev pub lineBytes : ℕ
+lineBytes = 87
+
 -- `refused ` and `record `
 abbrev pub refused : List ℕ
 refused = 114 ∷ 101 ∷ 102 ∷ 117 ∷ 115 ∷ 101 ∷ 100 ∷ 32 ∷ []

@@ -11,15 +11,18 @@ use Rattle.records.specs.declared.track_record.TrackAnswer.the-variants.
 use Rattle.records.specs.Field.{le, value, five, part, floatAt}
 use Rattle.records.specs.Written.{WritesRecord}
 
-abbrev pub trackBytes : TrackRecord → List ℕ
-trackBytes t = le 4 (t .frame) ++ (le 8 (t .id) ++ five (t .left) (t .top) (t .width) (t .height) (t .confidence))
+abbrev pub trackBytes : ℕ
+trackBytes = 32
+
+abbrev pub bytesOfTrack : TrackRecord → List ℕ
+bytesOfTrack t = le 4 (t .frame) ++ (le 8 (t .id) ++ five (t .left) (t .top) (t .width) (t .height) (t .confidence))
 
 abbrev pub trackOf : List ℕ → TrackRecord
 trackOf l = record { frame = value (part 0 4 l); id = value (part 4 8 l); left = floatAt 12 l; top = floatAt 16 l; width = floatAt 20 l; height = floatAt 24 l; confidence = floatAt 28 l }
 
 -- record k of a slice, where it has more than k whole ones
 unfoldable pub trackAt : List ℕ → ℕ → TrackAnswer
-trackAt l k = cond (ltb k (length l / 32)) (Read (trackOf (part (k * 32) 32 l))) Short
+trackAt l k = cond (ltb k (length l / trackBytes)) (Read (trackOf (part (k * trackBytes) trackBytes l))) Short
 
 abbrev pub WritesTrack : TrackRecord → ℕ → List ℕ → Written → List ℕ → Type 0
-WritesTrack t k out w out′ = WritesRecord 32 k (trackBytes t) out w out′
+WritesTrack t k out w out′ = WritesRecord trackBytes k (bytesOfTrack t) out w out′

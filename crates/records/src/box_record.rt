@@ -1,4 +1,4 @@
-// A box record: 24 bytes, a frame number and a scored box.
+// A box record: BOX_BYTES bytes, a frame number and a scored box.
 use super::Written;
 use super::field::f32_of;
 use super::field::put_five;
@@ -7,8 +7,13 @@ use super::field::u32_of;
 ghost use mathlib.Core.Path.{_≡_};
 ghost use Prim.Native.Nat.{_+_, _≤_};
 ghost use lib.ListN.{length};
-ghost use Rattle.records.specs.BoxRecord.{boxOf, boxBytes, boxAt, WritesBox};
-ghost use Rattle.records.specs.Steps.{Put};
+ghost use Rattle.records.specs.BoxRecord.{boxBytes, boxOf, bytesOfBox, boxAt, WritesBox};
+ghost use Rattle.records.specs.Private.{Put};
+
+pub const BOX_BYTES: usize = 24;
+
+// Left, top, width, height and score: what a frame's slice has of each of its boxes.
+pub const BOX_VALUES: usize = 5;
 
 pub struct BoxRecord {
     pub frame: u32,
@@ -26,7 +31,7 @@ pub enum BoxAnswer {
 }
 
 fn box_of(b: &[u8]) -> BoxRecord
-    requires { ⌜ length (now b) ≡ 24 ⌝ }
+    requires { ⌜ length (now b) ≡ boxBytes ⌝ }
     ensures { λ r. ⌜ r ≡ boxOf (now (b .entry)) ⌝ }
 {
     BoxRecord {
@@ -40,8 +45,8 @@ fn box_of(b: &[u8]) -> BoxRecord
 }
 
 fn put_box(out: &mut [u8], at: usize, r: BoxRecord) -> usize
-    requires { ⌜ at + 24 ≤ length (now out) ⌝ }
-    ensures { λ end. ⌜ Put at (boxBytes r) (now (out .entry)) end (now (out .exit)) ⌝ }
+    requires { ⌜ at + boxBytes ≤ length (now out) ⌝ }
+    ensures { λ end. ⌜ Put at (bytesOfBox r) (now (out .entry)) end (now (out .exit)) ⌝ }
 {
     let floats = put_u32(out, at, r.frame);
     put_five(out, floats, r.left, r.top, r.width, r.height, r.score)
@@ -51,9 +56,9 @@ fn put_box(out: &mut [u8], at: usize, r: BoxRecord) -> usize
 pub fn read_box(bytes: &[u8], k: usize) -> BoxAnswer
     ensures { λ r. ⌜ r ≡ boxAt (now (bytes .entry)) k ⌝ }
 {
-    if k < bytes.len() / 24 {
-        let at = k * 24;
-        return BoxAnswer::Read(box_of(&bytes[at..at + 24]));
+    if k < bytes.len() / BOX_BYTES {
+        let at = k * BOX_BYTES;
+        return BoxAnswer::Read(box_of(&bytes[at..at + BOX_BYTES]));
     }
     BoxAnswer::Short
 }
@@ -62,9 +67,9 @@ pub fn read_box(bytes: &[u8], k: usize) -> BoxAnswer
 pub fn write_box(r: BoxRecord, k: usize, out: &mut [u8]) -> Written
     ensures { λ w. ⌜ WritesBox r k (now (out .entry)) w (now (out .exit)) ⌝ }
 {
-    if k < out.len() / 24 {
-        put_box(out, k * 24, r);
-        return Written::Bytes(24);
+    if k < out.len() / BOX_BYTES {
+        put_box(out, k * BOX_BYTES, r);
+        return Written::Bytes(BOX_BYTES);
     }
     Written::Short
 }

@@ -3,7 +3,7 @@ ghost use mathlib.Core.Path.{_≡_};
 ghost use Prim.Native.Nat.{_+_, _≤_, _<_};
 ghost use lib.ListN.{length};
 ghost use Rattle.records.specs.Field as Field;
-ghost use Rattle.records.specs.Steps.{Put};
+ghost use Rattle.records.specs.Private.{Put};
 
 // The bits of x; of every NaN, those of the one that is written.
 pub(crate) fn bits(x: f32) -> u32

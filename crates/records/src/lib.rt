@@ -5,13 +5,17 @@ mod line;
 mod text;
 mod track_record;
 
+pub use box_record::BOX_BYTES;
+pub use box_record::BOX_VALUES;
 pub use box_record::BoxAnswer;
 pub use box_record::BoxRecord;
 pub use box_record::read_box;
 pub use box_record::write_box;
+pub use line::LINE_BYTES;
 pub use line::write_line;
 pub use line::write_refused;
 pub use text::write_decimal;
+pub use track_record::TRACK_BYTES;
 pub use track_record::TrackAnswer;
 pub use track_record::TrackRecord;
 pub use track_record::read_track;

@@ -9,7 +9,10 @@ ghost use Prim.Native.Nat.{_+_, _≤_};
 ghost use lib.ListN.{length};
 ghost use Rattle.records.specs.Line.{line, fiveHex, refusedLine};
 ghost use Rattle.records.specs.Written.{WritesText};
-ghost use Rattle.records.specs.Steps.{Put};
+ghost use Rattle.records.specs.Private.{Put};
+
+// The most bytes that a track's line can have: two numbers of 20 digits, five of 8, and seven separators.
+pub const LINE_BYTES: usize = 87;
 
 fn put_five_hex(out: &mut [u8], at: usize, a: f32, b: f32, c: f32, d: f32, e: f32) -> usize
     requires { ⌜ at + 45 ≤ length (now out) ⌝ }

@@ -6,7 +6,7 @@ ghost use Prim.Native.Nat.{_+_, _≤_, _<_};
 ghost use lib.ListN.{length};
 ghost use Rattle.records.specs.Text as Text;
 ghost use Rattle.records.specs.Written.{WritesText};
-ghost use Rattle.records.specs.Steps.{Put};
+ghost use Rattle.records.specs.Private.{Put};
 
 // How many decimal digits n has.
 pub(crate) fn places(n: u64) -> usize

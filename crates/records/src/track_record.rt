@@ -1,4 +1,4 @@
-// A track record: 32 bytes, a frame number and an emitted track.
+// A track record: TRACK_BYTES bytes, a frame number and an emitted track.
 use super::Written;
 use super::field::f32_of;
 use super::field::put_five;
@@ -9,8 +9,10 @@ use super::field::u64_of;
 ghost use mathlib.Core.Path.{_≡_};
 ghost use Prim.Native.Nat.{_+_, _≤_};
 ghost use lib.ListN.{length};
-ghost use Rattle.records.specs.TrackRecord.{trackOf, trackBytes, trackAt, WritesTrack};
-ghost use Rattle.records.specs.Steps.{Put};
+ghost use Rattle.records.specs.TrackRecord.{trackBytes, trackOf, bytesOfTrack, trackAt, WritesTrack};
+ghost use Rattle.records.specs.Private.{Put};
+
+pub const TRACK_BYTES: usize = 32;
 
 pub struct TrackRecord {
     pub frame: u32,
@@ -29,7 +31,7 @@ pub enum TrackAnswer {
 }
 
 fn track_of(b: &[u8]) -> TrackRecord
-    requires { ⌜ length (now b) ≡ 32 ⌝ }
+    requires { ⌜ length (now b) ≡ trackBytes ⌝ }
     ensures { λ r. ⌜ r ≡ trackOf (now (b .entry)) ⌝ }
 {
     TrackRecord {
@@ -44,8 +46,8 @@ fn track_of(b: &[u8]) -> TrackRecord
 }
 
 fn put_track(out: &mut [u8], at: usize, t: TrackRecord) -> usize
-    requires { ⌜ at + 32 ≤ length (now out) ⌝ }
-    ensures { λ end. ⌜ Put at (trackBytes t) (now (out .entry)) end (now (out .exit)) ⌝ }
+    requires { ⌜ at + trackBytes ≤ length (now out) ⌝ }
+    ensures { λ end. ⌜ Put at (bytesOfTrack t) (now (out .entry)) end (now (out .exit)) ⌝ }
 {
     let id = put_u32(out, at, t.frame);
     let floats = put_u64(out, id, t.id);
@@ -56,9 +58,9 @@ fn put_track(out: &mut [u8], at: usize, t: TrackRecord) -> usize
 pub fn read_track(bytes: &[u8], k: usize) -> TrackAnswer
     ensures { λ r. ⌜ r ≡ trackAt (now (bytes .entry)) k ⌝ }
 {
-    if k < bytes.len() / 32 {
-        let at = k * 32;
-        return TrackAnswer::Read(track_of(&bytes[at..at + 32]));
+    if k < bytes.len() / TRACK_BYTES {
+        let at = k * TRACK_BYTES;
+        return TrackAnswer::Read(track_of(&bytes[at..at + TRACK_BYTES]));
     }
     TrackAnswer::Short
 }
@@ -67,9 +69,9 @@ pub fn read_track(bytes: &[u8], k: usize) -> TrackAnswer
 pub fn write_track(t: TrackRecord, k: usize, out: &mut [u8]) -> Written
     ensures { λ w. ⌜ WritesTrack t k (now (out .entry)) w (now (out .exit)) ⌝ }
 {
-    if k < out.len() / 32 {
-        put_track(out, k * 32, t);
-        return Written::Bytes(32);
+    if k < out.len() / TRACK_BYTES {
+        put_track(out, k * TRACK_BYTES, t);
+        return Written::Bytes(TRACK_BYTES);
     }
     Written::Short
 }

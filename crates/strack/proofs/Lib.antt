@@ -1,2 +1,2 @@
--- Laws that the proofs share. Assumes nothing.
-pub mod Finite
+-- What upper layers need of a track. Assumes nothing.
+pub mod Laws

@@ -13,9 +13,9 @@ new x y width height = record { left = x; top = y; width = width; height = heigh
 abbrev pub area : Rect → Float
 area s = (s .width ⊕ one) ⊗ (s .height ⊕ one)
 
--- (from + length).min(other + size) - from.max(other) + 1
+-- (from + extent).min(other + size) - from.max(other) + 1
 abbrev pub sharedLength : Float → Float → Float → Float → Float
-sharedLength from length other size = smaller (from ⊕ length) (other ⊕ size) ⊖ larger from other ⊕ one
+sharedLength from extent other size = smaller (from ⊕ extent) (other ⊕ size) ⊖ larger from other ⊕ one
 
 abbrev pub iouOver : Rect → Float → Float → Float → Float
 iouOver s boxArea iw ih =

@@ -86,7 +86,7 @@ impl Pair {
     }
 
     // Whether a correction with this noise is accepted.
-    pub fn correctable(self, noise: f32) -> bool
+    fn correctable(self, noise: f32) -> bool
         ensures { λ o. ⌜ o ≡ correctable self noise ⌝ }
     {
         positive(self.a + noise)

@@ -26,10 +26,10 @@ pub struct Xyxy {
 }
 
 // The length that two spans share, each counted with one more at its end.
-fn shared_length(from: f32, length: f32, other: f32, size: f32) -> f32
-    ensures { λ r. ⌜ r ≡ sharedLength from length other size ⌝ }
+fn shared_length(from: f32, extent: f32, other: f32, size: f32) -> f32
+    ensures { λ r. ⌜ r ≡ sharedLength from extent other size ⌝ }
 {
-    floats::min(from + length, other + size) - floats::max(from, other) + 1.0
+    floats::min(from + extent, other + size) - floats::max(from, other) + 1.0
 }
 
 impl Rect {
@@ -149,7 +149,7 @@ impl Rect {
 }
 
 // The width of a box of height h and aspect r: none where the aspect is zero or below.
-pub fn width_of(h: f32, r: f32) -> f32
+pub(crate) fn width_of(h: f32, r: f32) -> f32
     ensures { λ w. ⌜ w ≡ widthOf h r ⌝ }
 {
     if r <= 0.0 { 0.0 } else { r * h }

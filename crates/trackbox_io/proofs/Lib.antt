@@ -1,2 +1,3 @@
--- What the proof of the loop cites.
-pub mod Sizes
+-- What the proofs of the functions cite.
+pub mod ProgressLaws
+pub mod TurnLaws

@@ -1,5 +1,6 @@
 // Replays streams, one after the other, as trackbox would print each. Before a stream stand 20 bytes: its name in 16 columns, and its length as a number of four bytes, the lowest first.
 // The name is printed before the lines. oracle/trackbox/vectors writes stdin and stdout.
+use trackbox_io::Ran;
 ghost use Prim.Native.Nat.{_<_};
 
 fn wide(b: u8) -> u64
@@ -28,15 +29,19 @@ fn skip(bytes: u64) {
     }
 }
 
-// One stream; false where there is none left.
+// One stream; false where there is none left, or a call failed.
 fn replay() -> bool {
     let mut head = [0u8; 20];
     if io::read_full(0, &mut head) < 20 {
         return false;
     }
-    io::write_all(1, &head[0..16]);
-    io::write_all(1, b"\n");
-    skip(trackbox_io::run(length_of(&head)));
+    if !(io::write_all(1, &head[0..16]) && io::write_all(1, b"\n")) {
+        return false;
+    }
+    let Ran::Whole(left) = trackbox_io::run(length_of(&head)) else {
+        return false;
+    };
+    skip(left);
     true
 }
 

@@ -2,3 +2,4 @@
 pub mod Parts
 pub mod Patterns
 pub mod Digesting
+pub mod Drawing

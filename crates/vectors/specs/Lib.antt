@@ -2,5 +2,7 @@
 pub mod Random
 pub mod Floats
 pub mod Digest
+pub mod Words
+pub mod Cells
 pub mod Known
 pub mod Lent

@@ -1,5 +1,6 @@
 // Floats of whole numbers and of bit patterns, and the words that stand for floats.
 ghost use mathlib.Core.Path.{_≡_};
+ghost use Prim.Native.Nat.{_%_};
 ghost use Rattle.vectors.specs.Floats as Floats;
 
 // The float of a number below 2^24.
@@ -47,4 +48,11 @@ pub fn wide_word(x: f64) -> u64
         return 0x7ff8_0000_0000_0000;
     }
     f64::to_bits(x)
+}
+
+// The f32 of a word.
+pub fn float(word: u64) -> f32
+    ensures { λ x. ⌜ x ≡ Floats.float (word % 4294967296) ⌝ }
+{
+    float_of((word % 0x1_0000_0000) as u32)
 }

@@ -1,5 +1,10 @@
-// What the programs that replay fixed lists share: random numbers, floats made of them, the words that stand
-// for floats, and digests (docs/ORACLE.md).
+// What the programs that replay fixed lists share: words of standard input, floats made of them and the words that
+// stand for floats, random numbers and the cells drawn by them, digests, and what is printed (docs/ORACLE.md).
+pub mod cells;
 pub mod digest;
 pub mod floats;
+pub mod held;
+pub mod input;
+pub mod part;
 pub mod random;
+pub mod text;

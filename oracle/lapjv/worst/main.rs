@@ -1,14 +1,8 @@
 //! Prints, for the worst matrices known, the turns, scans and passes of the published lapjv.rs beside their limits; and
 //! whether the passes of every matrix of crates/lapjv_vectors are within what its turns and scans allow.
 
-#[allow(dead_code)]
-#[path = "../../jamtrack/counters.rs"]
-mod counters;
-#[path = "../error.rs"]
-mod error;
-#[allow(dead_code)]
-#[path = "../matrices.rs"]
-mod matrices;
+use jamtrack_rs::{counters, error};
+use oracle::matrices;
 #[allow(warnings)]
 mod lapjv {
     include!(concat!(env!("OUT_DIR"), "/passes.rs"));

@@ -1,7 +1,7 @@
 -- `verdict_of` meets its contract: each of its answers is the definition's under the tests on the way to it. Assumes nothing.
 use mathlib.Core.Path.{sym}
 use native.Mathlib.Omega.{arith}
-use Rattle.lapjv.proofs.AnswerLaws.{no-side, big-side, bad-costs, bad-rows, bad-cols, fits}
+use Rattle.lapjv.proofs.AnswerLaws.{no-side, big-side, bad-costs, bad-rows, bad-cols, all-fit}
 use Rattle.lapjv_definition.proofs.CostLaws.{square-small}
 use Rattle.lapjv.proofs.verdict_of.Statement.{statement}
 use Rattle.lapjv.proofs.verdict_of.Tie as tie
@@ -25,7 +25,7 @@ returns-5 : tie.Need-returns-5
 returns-5 c = let u = c .before .before in sym (bad-cols _ _ _ _ (u .before .before .if1 .left) (u .before .if2 .left) (u .if3 .left) (c .before .if4 .left) (c .if5 .taken))
 
 returns-6 : tie.Need-returns-6
-returns-6 c = let u = c .before .before in sym (fits _ _ _ _ (u .before .before .if1 .left) (u .before .if2 .left) (u .if3 .left) (c .before .if4 .left) (c .if5 .left))
+returns-6 c = let u = c .before .before in sym (all-fit _ _ _ _ (u .before .before .if1 .left) (u .before .if2 .left) (u .if3 .left) (c .before .if4 .left) (c .if5 .left))
 
 pub verdict-of-spec : {M : Type 1} → statement M
 verdict-of-spec = tie.close (tie.spec returns returns-2 mul-if3 returns-3 returns-4 returns-5 returns-6)

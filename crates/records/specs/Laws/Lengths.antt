@@ -10,8 +10,8 @@ use Rattle.records.specs.declared.box_record.BoxRecord.{BoxRecord}
 use Rattle.records.specs.declared.track_record.TrackRecord.{TrackRecord}
 use Rattle.records.specs.Field.{le, bits}
 use Rattle.records.specs.Text.{glyph, digits, places, decimal, hex, ended}
-use Rattle.records.specs.BoxRecord.{boxBytes}
-use Rattle.records.specs.TrackRecord.{trackBytes}
+use Rattle.records.specs.BoxRecord.{boxBytes, bytesOfBox}
+use Rattle.records.specs.TrackRecord.{trackBytes, bytesOfTrack}
 use Rattle.records.specs.Line.{line, refusedLine}
 
 pub length-le : (k n : ℕ) → length (le k n) ≡ k
@@ -19,10 +19,10 @@ unfolding le
 length-le zero n = refl
 length-le (suc k) n = ap suc (length-le k (n / 256))
 
-pub length-box : (r : BoxRecord) → length (boxBytes r) ≡ 24
+pub length-box : (r : BoxRecord) → length (bytesOfBox r) ≡ boxBytes
 length-box r = simp (length-append, length-le)
 
-pub length-track : (t : TrackRecord) → length (trackBytes t) ≡ 32
+pub length-track : (t : TrackRecord) → length (bytesOfTrack t) ≡ trackBytes
 length-track t = simp (length-append, length-le)
 
 pub length-digits : (b k n : ℕ) → length (digits b k n) ≡ k

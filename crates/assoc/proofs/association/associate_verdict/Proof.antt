@@ -1,7 +1,7 @@
 -- `association::associate_verdict` meets its contract: each return is the verdict where the tests are as that return found them. Assumes nothing.
 use mathlib.Core.Path.{_∙_}
 use Rattle.laws.specs.Sides.{sides-fit}
-use Rattle.similarity.specs.Laws.{few-sides}
+use Rattle.assoc_similarity.proofs.Laws.{few-sides}
 use Rattle.assoc.specs.Answers.{associateVerdict}
 use Rattle.assoc.proofs.AssociationLaws.{associate-rest}
 use Rattle.assoc.proofs.association.associate_verdict.Statement.{statement}

@@ -4,9 +4,9 @@ use native.Mathlib.Nat.{mul-le-mul}
 use native.Mathlib.Omega.{arith}
 use borrow.Author.Tests.{lt-ltb, le-ltb}
 use Rattle.laws.specs.Sides.{sides-fit}
-use Rattle.similarity.specs.Laws.{few-sides}
+use Rattle.assoc_similarity.proofs.Laws.{few-sides}
 use Rattle.assoc.specs.Answers.{withinVerdict}
-use Rattle.matching.specs.Laws.{side-low}
+use Rattle.assoc_matching.specs.Laws.{side-low}
 use Rattle.assoc.proofs.AssociationLaws.{within-rest}
 use Rattle.assoc.proofs.association.within_verdict.Statement.{statement}
 use Rattle.assoc.proofs.association.within_verdict.Tie as tie

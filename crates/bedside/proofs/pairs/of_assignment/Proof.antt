@@ -1,7 +1,7 @@
 -- `bedside::pairs::of_assignment` meets its contract. Assumes nothing.
 use mathlib.Core.Path.{sym, ap, _∙_}
 use Prim.Native.Nat.{ℕ}
-use Rattle.matching.specs.Answers.{assignmentNumber, assignmentValues}
+use Rattle.assoc_matching.specs.Answers.{assignmentNumber, assignmentValues}
 use Rattle.bedside.specs.Pairs.{assignmentInC}
 use Rattle.bedside.specs.declared.pairs.Assignment.{Assignment}
 use borrow.Author.Needs.{needs}
@@ -9,7 +9,7 @@ use Rattle.bedside.proofs.pairs.of_assignment.Statement.{statement}
 use Rattle.bedside.proofs.pairs.of_assignment.Tie as tie
 
 abbrev refused : ℕ → Assignment
-refused k = record { refusal = k; pairs = 0; detections = 0; tracks = 0; turns = 0; scans = 0 }
+refused k = record { refusal = k; pairs = 0; «unmatched_detections» = 0; «unmatched_tracks» = 0; turns = 0; scans = 0 }
 
 returns : tie.Need-returns
 unfolding assignmentNumber assignmentValues

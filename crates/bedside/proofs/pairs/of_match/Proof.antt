@@ -1,7 +1,7 @@
 -- `bedside::pairs::of_match` meets its contract. Assumes nothing.
 use mathlib.Core.Path.{sym, ap, _∙_}
 use Prim.Native.Nat.{ℕ}
-use Rattle.matching.specs.Answers.{matchNumber, matchValues}
+use Rattle.assoc_matching.specs.Answers.{matchNumber, matchValues}
 use Rattle.bedside.specs.Pairs.{matchedInC}
 use Rattle.bedside.specs.declared.pairs.Matched.{Matched}
 use borrow.Author.Needs.{needs}

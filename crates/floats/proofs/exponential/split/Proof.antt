@@ -9,7 +9,7 @@ use lib.Signed.{ltZ}
 use mir.Syntax.{w64}
 use mir.Val.{SFits, toZ}
 use Rattle.floats.specs.Exponential.{L}
-use Rattle.floats.specs.Steps.{Splits}
+use Rattle.floats.specs.Private.{Splits}
 use Rattle.floats.proofs.Signs.{read, below, mirror-fits, mirror-is, mirror-cast, above, held-is, held-cast, cast-fits, cast-is, turned-fits, turned-is}
 use borrow.Author.Needs.{needs}
 use Rattle.floats.proofs.exponential.split.Statement.{statement}

@@ -4,7 +4,7 @@ use mathlib.Core.Bool.{not}
 use lib.Dec.{T}
 use lib.Ieee.{Float, nan, inf, fin, binary32, fits, isNan}
 use lib.Ieee.Scale.{finite}
-use Rattle.floats.specs.Laws.Fields.{pattern, low-is, high-is}
+use Rattle.floats.proofs.Fields.{pattern, low-is, high-is}
 use borrow.Author.Needs.{needs}
 use Rattle.floats.proofs.packing.parts.Statement.{statement}
 use Rattle.floats.proofs.packing.parts.Tie as tie

@@ -23,8 +23,9 @@ module _ (s k : ℕ) (few : s < 2 ^ 62) (some : 0 < k) (short : k < 62) where
   half-pos : 0 < half k
   half-pos = subst (λ (x : ℕ). 0 < x) (sym half-is) (pow-pos (k - 1))
 
-  sum-fits : Fits w64 (s + (half k - 1 + s / 2 ^ k % 2))
-  sum-fits = let h : half k ≤ 2 ^ 61 = subst (λ (x : ℕ). x ≤ 2 ^ 61) (sym half-is) (pow-mono {i = k - 1} {j = 61} (omega arith)) in record { fits = omega arith }
+  -- whatever is added for the kept part
+  sum-fits : (odd : ℕ) → odd ≤ 1 → Fits w64 (s + (half k - 1 + odd))
+  sum-fits odd b = let h : half k ≤ 2 ^ 61 = subst (λ (x : ℕ). x ≤ 2 ^ 61) (sym half-is) (pow-mono {i = k - 1} {j = 61} (omega arith)) in record { fits = omega arith }
 
   halves : 2 ^ k ≡ 2 * half k
   halves = let e : k ≡ k - 1 + 1 = omega arith in ap (λ (x : ℕ). 2 ^ x) e ∙ pow-add 2 (k - 1) 1 ∙ mul-comm (2 ^ (k - 1)) 2 ∙ ap (λ (x : ℕ). 2 * x) (sym half-is)
@@ -36,7 +37,7 @@ sub-result : tie.Need-sub-result
 sub-result c = half-pos (c .args .s) (c .args .shift) (c .pre .0) (c .pre .1 .0) (c .pre .1 .1)
 
 add-result-2 : tie.Need-add-result-2
-add-result-2 c = sum-fits (c .args .s) (c .args .shift) (c .pre .0) (c .pre .1 .0) (c .pre .1 .1)
+add-result-2 c = sum-fits (c .args .s) (c .args .shift) (c .pre .0) (c .pre .1 .0) (c .pre .1 .1) _ (omega arith)
 
 returns : tie.Need-returns
 returns c = rounds (c .args .s) (c .args .shift) (c .pre .0) (c .pre .1 .0) (c .pre .1 .1)

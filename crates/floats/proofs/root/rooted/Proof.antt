@@ -2,7 +2,7 @@
 use mathlib.Core.Path.{_∙_}
 use native.Mathlib.Omega.{arith}
 use lib.Count.{leading-le}
-use Rattle.floats.specs.Laws.Squares.{wide-lt, root-is, kept, kept-next, rounds-down, rounds-up}
+use Rattle.floats.proofs.Squares.{wide-lt, root-is, kept, kept-next, rounds-down, rounds-up}
 use borrow.Author.Needs.{needs}
 use Rattle.floats.proofs.root.rooted.Statement.{statement}
 use Rattle.floats.proofs.root.rooted.Tie as tie
@@ -39,7 +39,7 @@ returns : tie.Need-returns
 returns c =
     let s = c .before .before .before in
     let r = c .before .before .whole-root in
-    c .packed .ensures ∙ rounds-down (s .args .digits) (s .args .place) (s .pre) (r .result) (r .ensures) (c .before .if1 .taken)
+    c .packed .ensures ∙ rounds-down (s .args .digits) (s .args .place) (s .pre) (r .result) (r .ensures) (omega (arith, c .before .if1 .taken))
 
 returns-2 : tie.Need-returns-2
 returns-2 c =

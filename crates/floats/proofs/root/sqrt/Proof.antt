@@ -11,8 +11,8 @@ use lib.Ieee.{Float, nan, inf, fin, binary32, up, down, lt, eq, isNan, ofBits, d
 use lib.Ieee.Fits.{up-pos}
 use lib.Ieee.Positive.{positive, positive-finite}
 use Rattle.floats.specs.Root.{root}
-use Rattle.floats.specs.Steps.{Parts}
-use Rattle.floats.specs.Laws.Nearest.{parts-above, significance, root-of-parts}
+use Rattle.floats.specs.Private.{Parts}
+use Rattle.floats.proofs.Nearest.{parts-above, significance, root-of-parts}
 use Rattle.floats.proofs.Nans.{ne-self}
 use Rattle.floats.proofs.Pack.{no-nan}
 use Rattle.floats.proofs.root.sqrt.Statement.{statement}

@@ -8,7 +8,7 @@ use mir.Syntax.{w64}
 use mir.Val.{Fits}
 use mir.Facts.{fits-le, fits-lit}
 use Rattle.floats.specs.Root.{wholeRoot}
-use Rattle.floats.specs.Laws.Roots.{IsRoot, under, one-root, whole-is}
+use Rattle.floats.proofs.Roots.{IsRoot, under, one-root, whole-is}
 use borrow.Author.Needs.{needs}
 use Rattle.floats.proofs.root.whole_root.Statement.{statement}
 use Rattle.floats.proofs.root.whole_root.Tie as tie

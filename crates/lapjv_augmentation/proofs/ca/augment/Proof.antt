@@ -19,10 +19,20 @@ abbrev μ-loop : tie.MeasureT-loop
 loop-holds : tie.Need-loop-holds Inv-loop μ-loop
 loop-holds c = let q = c .before .before .before .pre in aug-start (q .1) (q .2) (q .3)
 
+-- The places that the answers go back to.
+abbrev start : tie.After-loop Inv-loop μ-loop → tie.Start Inv-loop μ-loop
+start c = c .before .before .before .before .before
+
+abbrev start·mul-i : tie.In-loop Inv-loop μ-loop → tie.Start Inv-loop μ-loop
+start·mul-i c = c .before .before .before .before .before
+
+abbrev at-loop : tie.Then1 Inv-loop μ-loop → tie.At-loop Inv-loop μ-loop
+at-loop c = c .before .before .before .before .before
+
 mul-i : tie.Need-mul-i Inv-loop μ-loop
 mul-i c =
-    let start = c .before .before .before .before .before in
-    omega (arith, c .before .loop .inv .holed .hole .col, c .before .loop .inv .len-x, c .before .loop .inv .len-y, start .pre .0, start .fits .n)
+    let begun = start·mul-i c in
+    omega (arith, c .before .loop .inv .holed .hole .col, c .before .loop .inv .len-x, c .before .loop .inv .len-y, begun .pre .0, begun .fits .n)
 
 shared-slice-read-i : tie.Need-shared-slice-read-i Inv-loop μ-loop
 shared-slice-read-i c =
@@ -68,18 +78,18 @@ slice-write-x c =
 
 same-length : tie.Need-same-length Inv-loop μ-loop
 same-length c =
-    let head = c .before .before .before .before .before in
+    let head = at-loop c in
     let start = head .before .before .before .before in
     simp length-set (head .loop .inv .len-x ∙ sym (start .pre .1))
 
 same-length-2 : tie.Need-same-length-2 Inv-loop μ-loop
 same-length-2 c =
-    let head = c .before .before .before .before .before in
+    let head = at-loop c in
     let start = head .before .before .before .before in
     simp length-set (head .loop .inv .len-y ∙ sym (start .pre .2))
 
 returns : tie.Need-returns Inv-loop μ-loop
-returns c = aug-found (c .before .before .before .before .before .loop .inv) (c .before .before .before .before .loop-test .taken) (c .if1 .taken)
+returns c = aug-found (at-loop c .loop .inv) (c .before .before .before .before .loop-test .taken) (c .if1 .taken)
 
 loop-again : tie.Need-loop-again Inv-loop μ-loop
 loop-again c =
@@ -88,10 +98,10 @@ loop-again c =
     rw (c .before .row-of .ensures) (aug-again (head .loop .inv) (test .loop-test .taken) (c .if1 .left))
 
 same-length-3 : tie.Need-same-length-3 Inv-loop μ-loop
-same-length-3 c = c .before .loop .inv .len-x ∙ sym (c .before .before .before .before .before .pre .1)
+same-length-3 c = c .before .loop .inv .len-x ∙ sym (start c .pre .1)
 
 same-length-4 : tie.Need-same-length-4 Inv-loop μ-loop
-same-length-4 c = c .before .loop .inv .len-y ∙ sym (c .before .before .before .before .before .pre .2)
+same-length-4 c = c .before .loop .inv .len-y ∙ sym (start c .pre .2)
 
 returns-2 : tie.Need-returns-2 Inv-loop μ-loop
 returns-2 c = absurd (aug-never (c .before .loop .inv) (c .loop-test .left))

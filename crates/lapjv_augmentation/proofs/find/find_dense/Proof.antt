@@ -30,10 +30,14 @@ mul-dj c = let l = c .before .before .loop in omega (arith, l .inv .below (l .k)
 shared-slice-read-dj : tie.Need-shared-slice-read-dj Inv-loop μ-loop
 shared-slice-read-dj c = let l = c .before .before .before .loop in omega (arith, l .inv .below (l .k) (omega arith))
 
+-- The places that the answers go back to.
+abbrev in-loop : tie.After-slice-known4 Inv-loop μ-loop → tie.In-loop Inv-loop μ-loop
+in-loop c = c .before .before .before .before .before .before
+
 loop-again : tie.Need-loop-again Inv-loop μ-loop
 loop-again c =
     let f = c .before .before .find-step in
-    let i = c .before .before .before .before .before .before in
+    let i = in-loop c in
     find-again (i .before .loop .inv) (i .loop-test .taken) (f .ensures) (f .kept .1 .1 .1 .1 .1 .0)
 
 returns : tie.Need-returns Inv-loop μ-loop

@@ -18,11 +18,18 @@ abbrev μ-loop : tie.MeasureT-loop
 loop-holds : tie.Need-loop-holds Inv-loop μ-loop
 loop-holds c = record { to = omega arith; rest = refl }
 
+-- The places that the answers go back to.
+abbrev start : tie.After-shared-slice-known3 Inv-loop μ-loop → tie.Start Inv-loop μ-loop
+start c = c .before .before .before .before .before
+
+abbrev start·shared-slice-read-r : tie.After-shared-slice-known4 Inv-loop μ-loop → tie.Start Inv-loop μ-loop
+start·shared-slice-read-r c = start (c .before)
+
 mul-r : tie.Need-mul-r Inv-loop μ-loop
-mul-r c = let l = c .before .before .loop in let q = c .before .before .before .before .before .pre in omega (arith, q .2 (l .k) (omega arith), q)
+mul-r c = let l = c .before .before .loop in let q = start c .pre in omega (arith, q .2 (l .k) (omega arith), q)
 
 shared-slice-read-r : tie.Need-shared-slice-read-r Inv-loop μ-loop
-shared-slice-read-r c = let l = c .before .before .before .loop in let q = c .before .before .before .before .before .before .pre in omega (arith, q .2 (l .k) (omega arith), q)
+shared-slice-read-r c = let l = c .before .before .before .loop in let q = start·shared-slice-read-r c .pre in omega (arith, q .2 (l .k) (omega arith), q)
 
 loop-again : tie.Need-loop-again Inv-loop μ-loop
 loop-again c = last-again (c .before .before .before .before .loop .inv) (c .before .before .before .loop-test .taken) (c .last-step .ensures)

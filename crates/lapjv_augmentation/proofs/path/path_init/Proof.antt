@@ -20,20 +20,27 @@ abbrev μ-loop : tie.MeasureT-loop
 loop-holds : tie.Need-loop-holds Inv-loop μ-loop
 loop-holds c = (fill-start _ _ _, fill-start _ _ _, fill-start _ _ _)
 
+-- The places that the answers go back to.
+abbrev start·at-loop : tie.At-loop Inv-loop μ-loop → tie.Start Inv-loop μ-loop
+start·at-loop c = c .before .before .before .before .before .before
+
+abbrev start : tie.After-loop Inv-loop μ-loop → tie.Start Inv-loop μ-loop
+start c = start·at-loop (c .before)
+
 loop-again : tie.Need-loop-again Inv-loop μ-loop
 loop-again c =
     let test = c .before in
     let head = test .before in
-    let start = head .before .before .before .before .before .before in
+    let begun = start·at-loop head in
     let l = head .loop in
     let h = test .loop-test .taken in
-    let q = start .pre in
+    let q = begun .pre in
     (fill-on _ _ _ (l .inv .0) h (omega (arith, q .3)) (rw (c .reduced-cost .ensures)), fill-on _ _ _ (l .inv .1) h (omega (arith, q .4)) refl, fill-on _ _ _ (l .inv .2) h (omega (arith, q .5)) refl)
 
 returns : tie.Need-returns Inv-loop μ-loop
 returns c =
     let l = c .before .loop in
-    let q = c .before .before .before .before .before .before .before .pre in
+    let q = start c .pre in
     let h = c .loop-test .left in
     (fill-whole _ _ _ (l .inv .0) h (q .3), fill-whole _ _ _ (l .inv .1) h (q .4), fill-whole _ _ _ (l .inv .2) h (q .5))
 

@@ -25,23 +25,33 @@ shared-slice-read-mind c = let a = c .before .before in omega (arith, a .pre .2 
 loop-holds : tie.Need-loop-holds Inv-loop μ-loop
 loop-holds c = record { to = omega arith; len = c .before .before .pre .5; rest = rw (sub-zero _) }
 
+-- The places that the answers go back to.
+abbrev start·mul-raised : tie.After-shared-slice-known3 Inv-loop μ-loop → tie.Start Inv-loop μ-loop
+start·mul-raised c = c .before .before .before .before .before
+
+abbrev start·slice-read-raised : tie.After-slice-known Inv-loop μ-loop → tie.Start Inv-loop μ-loop
+start·slice-read-raised c = start·mul-raised (c .before)
+
+abbrev start : tie.After-shared-slice-known4 Inv-loop μ-loop → tie.Start Inv-loop μ-loop
+start c = start·slice-read-raised (c .before)
+
 mul-raised : tie.Need-mul-raised Inv-loop μ-loop
-mul-raised c = let l = c .before .before .loop in let q = c .before .before .before .before .before .pre in omega (arith, q .2 (l .k) (omega arith), q, l .inv .len)
+mul-raised c = let l = c .before .before .loop in let q = start·mul-raised c .pre in omega (arith, q .2 (l .k) (omega arith), q, l .inv .len)
 
 slice-read-raised : tie.Need-slice-read-raised Inv-loop μ-loop
-slice-read-raised c = let l = c .before .before .before .loop in let q = c .before .before .before .before .before .before .pre in omega (arith, q .2 (l .k) (omega arith), q, l .inv .len)
+slice-read-raised c = let l = c .before .before .before .loop in let q = start·slice-read-raised c .pre in omega (arith, q .2 (l .k) (omega arith), q, l .inv .len)
 
 mul-raised-2 : tie.Need-mul-raised-2 Inv-loop μ-loop
-mul-raised-2 c = let l = c .before .before .before .loop in let q = c .before .before .before .before .before .before .pre in omega (arith, q .2 (l .k) (omega arith), q, l .inv .len)
+mul-raised-2 c = let l = c .before .before .before .loop in let q = start·slice-read-raised c .pre in omega (arith, q .2 (l .k) (omega arith), q, l .inv .len)
 
 shared-slice-read-raised : tie.Need-shared-slice-read-raised Inv-loop μ-loop
-shared-slice-read-raised c = let l = c .before .before .before .before .loop in let q = c .before .before .before .before .before .before .before .pre in omega (arith, q .2 (l .k) (omega arith), q, l .inv .len)
+shared-slice-read-raised c = let l = c .before .before .before .before .loop in let q = start c .pre in omega (arith, q .2 (l .k) (omega arith), q, l .inv .len)
 
 mul-v : tie.Need-mul-v Inv-loop μ-loop
-mul-v c = let l = c .before .before .before .before .loop in let q = c .before .before .before .before .before .before .before .pre in omega (arith, q .2 (l .k) (omega arith), q, l .inv .len)
+mul-v c = let l = c .before .before .before .before .loop in let q = start c .pre in omega (arith, q .2 (l .k) (omega arith), q, l .inv .len)
 
 slice-write-v : tie.Need-slice-write-v Inv-loop μ-loop
-slice-write-v c = let l = c .before .before .before .before .loop in let q = c .before .before .before .before .before .before .before .pre in omega (arith, q .2 (l .k) (omega arith), q, l .inv .len)
+slice-write-v c = let l = c .before .before .before .before .loop in let q = start c .pre in omega (arith, q .2 (l .k) (omega arith), q, l .inv .len)
 
 loop-again : tie.Need-loop-again Inv-loop μ-loop
 loop-again c = raise-again (c .before .before .before .before .loop .inv) (c .before .before .before .loop-test .taken)

@@ -2,7 +2,7 @@
 use mathlib.Core.Path.{sym, _∙_}
 use borrow.Author.Tests.{lt-ltb, le-ltb}
 use borrow.Author.Needs.{needs}
-use Rattle.lapjv_definition.specs.Steps.{carrPick}
+use Rattle.lapjv_definition.specs.Private.{carrPick}
 use Rattle.lapjv_definition.proofs.EntryLaws.{free-true, free-false}
 use Rattle.lapjv_reduction.proofs.carr.carr_pick.Statement.{statement}
 use Rattle.lapjv_reduction.proofs.carr.carr_pick.Tie as tie

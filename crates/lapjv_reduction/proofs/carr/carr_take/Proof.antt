@@ -3,7 +3,7 @@ use mathlib.Core.Path.{sym, _∙_}
 use borrow.Author.Tests.{lt-ltb, le-ltb}
 use borrow.Author.Needs.{needs}
 use lib.ListN.{length-set}
-use Rattle.lapjv_definition.specs.Steps.{carrTake}
+use Rattle.lapjv_definition.specs.Private.{carrTake}
 use Rattle.lapjv_definition.proofs.EntryLaws.{free-true, free-false, row-is}
 use Rattle.lapjv_reduction.proofs.carr.carr_take.Statement.{statement}
 use Rattle.lapjv_reduction.proofs.carr.carr_take.Tie as tie

@@ -38,14 +38,18 @@ loop-again c =
     let head = test .before in
     cols-again (head .loop .inv) (test .loop-test .taken) (rw (at-row-of .row-of .ensures) at (at-col-step .col-step .ensures)) (at-col-step .col-step .kept .1 .1 .1 .0) (at-col-step .col-step .kept .1 .1 .1 .1 .0) (at-col-step .col-step .kept .1 .1 .1 .1 .1 .0)
 
+-- The places that the answers go back to.
+abbrev start : tie.After-loop Inv-loop μ-loop → tie.Start Inv-loop μ-loop
+start c = c .before .before .before .before .before
+
 same-length : tie.Need-same-length Inv-loop μ-loop
-same-length c = c .before .loop .inv .len-x ∙ sym (c .before .before .before .before .before .pre .1)
+same-length c = c .before .loop .inv .len-x ∙ sym (start c .pre .1)
 
 same-length-2 : tie.Need-same-length-2 Inv-loop μ-loop
-same-length-2 c = c .before .loop .inv .len-y ∙ sym (c .before .before .before .before .before .pre .2)
+same-length-2 c = c .before .loop .inv .len-y ∙ sym (start c .pre .2)
 
 same-length-3 : tie.Need-same-length-3 Inv-loop μ-loop
-same-length-3 c = c .before .loop .inv .len-u ∙ sym (c .before .before .before .before .before .pre .3)
+same-length-3 c = c .before .loop .inv .len-u ∙ sym (start c .pre .3)
 
 returns : tie.Need-returns Inv-loop μ-loop
 returns c = cols-done (c .before .loop .inv) (c .loop-test .left)

@@ -13,15 +13,22 @@ Inv-loop n cost freeRows₀ x v₀ unique nfree₀ i₀ freeRows v nFreeRows i =
 abbrev μ-loop : tie.MeasureT-loop
 μ-loop n cost freeRows₀ x v₀ unique nfree₀ i₀ freeRows v nFreeRows i = n - i
 
+-- The places that the answers go back to.
+abbrev start : tie.After-shared-slice-known3 Inv-loop μ-loop → tie.Start Inv-loop μ-loop
+start c = c .before .before .before .before .before
+
+abbrev in-loop : tie.After-reduce-step Inv-loop μ-loop → tie.In-loop Inv-loop μ-loop
+in-loop c = c .before .before .before .before .before
+
 loop-holds : tie.Need-loop-holds Inv-loop μ-loop
 loop-holds c =
-    let start = c .before .before .before .before .before in
-    red-start (start .pre .1) (start .pre .3)
+    let begun = start c in
+    red-start (begun .pre .1) (begun .pre .3)
 
 loop-again : tie.Need-loop-again Inv-loop μ-loop
 loop-again c =
     let at-reduce-step = c .before .before .before .before in
-    let test = at-reduce-step .before .before .before .before .before in
+    let test = in-loop at-reduce-step in
     let head = test .before in
     red-again (head .loop .inv) (test .loop-test .taken) (at-reduce-step .reduce-step .ensures) (at-reduce-step .reduce-step .kept .1 .1 .1 .1 .1 .1 .0) (at-reduce-step .reduce-step .kept .1 .1 .1 .1 .1 .1 .1 .0)
 

@@ -24,11 +24,15 @@ loop-again c =
     let head = test .before in
     rows-again (head .loop .inv) (test .loop-test .taken) (at-ccrt-row .ccrt-row .ensures) (at-ccrt-row .ccrt-row .kept .1 .1 .1 .0) (at-ccrt-row .ccrt-row .kept .1 .1 .1 .1 .0)
 
+-- The places that the answers go back to.
+abbrev start : tie.After-loop Inv-loop μ-loop → tie.Start Inv-loop μ-loop
+start c = c .before .before .before .before .before
+
 same-length : tie.Need-same-length Inv-loop μ-loop
-same-length c = c .before .loop .inv .len-y ∙ sym (c .before .before .before .before .before .pre .1)
+same-length c = c .before .loop .inv .len-y ∙ sym (start c .pre .1)
 
 same-length-2 : tie.Need-same-length-2 Inv-loop μ-loop
-same-length-2 c = c .before .loop .inv .len-v ∙ sym (c .before .before .before .before .before .pre .2)
+same-length-2 c = c .before .loop .inv .len-v ∙ sym (start c .pre .2)
 
 returns : tie.Need-returns Inv-loop μ-loop
 returns c = rows-done (c .before .loop .inv) (c .loop-test .left)

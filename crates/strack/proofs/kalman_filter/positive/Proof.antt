@@ -1,5 +1,5 @@
 -- `kalman_filter::positive` meets its contract, by the law of its test. Assumes nothing.
-use Rattle.strack.proofs.Finite.{positive-test}
+use Rattle.floats.proofs.Positive.{positive-test}
 use Rattle.strack.proofs.kalman_filter.positive.Statement.{statement}
 use Rattle.strack.proofs.kalman_filter.positive.Tie as tie
 

@@ -1,0 +1,114 @@
+-- What the contracts of the private functions of assignment.rt cite. proofs/ shows that it comes to the definition.
+use mathlib.Core.Path.{_≡_}
+use mathlib.Core.List.{List, _++_}
+use mathlib.Core.Bool.{Bool, true, false, cond, not, _&&_}
+use Prim.Native.Nat.{ℕ, _+_, _*_, _≤_}
+use lib.Dec.{ltb}
+use lib.Ieee.{Float}
+use lib.ListN.{length, set}
+use Rattle.laws.specs.Tab.{tab}
+use Rattle.laws.specs.Sieve.{sieve}
+use Rattle.laws.specs.Elem.{elem}
+use Rattle.laws.specs.Count.{bit}
+use Rattle.laws.specs.Most.{greater, lesser}
+use Rattle.laws.specs.Occurs.{occurs}
+use Rattle.laws.specs.Over.{over, Pushed}
+use Rattle.assoc_matching.specs.declared.assignment.Left.{Left}
+use Rattle.assoc_matching.specs.declared.assignment.Lists.{Lists}
+use Rattle.assoc_matching.specs.declared.assignment.AssignmentCounts.{AssignmentCounts}
+use Rattle.assoc_matching.specs.Matching.{Pair, pair, boxesOf, tracksOf}
+use Rattle.assoc_matching.specs.Assignment.{Assignment, unmatched}
+use Rattle.assoc_matching.specs.Answers.{zeroed, assignmentCounts}
+use Rattle.assoc_matching.specs.PrivateMatching.{held, Wrote}
+
+-- ---- the pairs that stand, or the others
+
+abbrev pub chosen : Bool → Bool → Bool
+chosen true valid = valid
+chosen false valid = not valid
+
+-- the column j of row i, if the pair has q
+unfoldable pub picked : (Pair → Bool) → ℕ → ℕ → ℕ → ℕ
+picked q m i j = cond (ltb j m && q (pair i j)) j m
+
+-- ---- marks
+
+-- a row's marks
+pub record Mark (b : Bool) (i j : ℕ) (boxes tracks boxes′ tracks′ : List Bool) : Type 0 where
+  pub boxes-are : boxes′ ≡ cond b (set boxes i true) boxes
+  pub tracks-are : tracks′ ≡ cond b (set tracks j true) tracks
+
+pub record Marked (ps : List Pair) (n m : ℕ) (boxes tracks : List Bool) : Type 0 where
+  pub boxes-are : boxes ≡ tab (λ b. elem b (boxesOf ps)) n
+  pub tracks-are : tracks ≡ tab (λ k. elem k (tracksOf ps)) m
+
+-- ---- the unmatched
+
+-- the pairs ps without those that stand
+abbrev pub rejected : (Pair → Bool) → List Pair → List Pair
+rejected ok ps = sieve (λ p. not (ok p)) ps
+
+-- the pairs ps behind the first a and b of two lists
+pub record TailRoom (ps : List Pair) (a b boxes tracks : ℕ) : Type 0 where
+  pub boxes-fit : a + length ps ≤ boxes
+  pub tracks-fit : b + length ps ≤ tracks
+  pub boxes-few : a + length ps ≤ 255
+  pub tracks-few : b + length ps ≤ 255
+
+-- whatever the first a and b are, the pairs are pushed behind them
+pub record Tails (ps : List Pair) (a b : ℕ) (boxes tracks : List ℕ) (r : Left) (boxes′ tracks′ : List ℕ) : Type 0 where
+  pub boxes-are : (l us : List ℕ) → Pushed l us a boxes → Pushed l (us ++ boxesOf ps) (r .boxes) boxes′
+  pub tracks-are : (l us : List ℕ) → Pushed l us b tracks → Pushed l (us ++ tracksOf ps) (r .tracks) tracks′
+
+-- of the pairs ps, of which those with ok stand
+abbrev pub leftBoxes : (Pair → Bool) → List Pair → ℕ → List ℕ
+leftBoxes ok ps n = unmatched (boxesOf ps) n ++ boxesOf (rejected ok ps)
+
+abbrev pub leftTracks : (Pair → Bool) → List Pair → ℕ → List ℕ
+leftTracks ok ps m = unmatched (tracksOf ps) m ++ tracksOf (rejected ok ps)
+
+pub record LeftRoom (ok : Pair → Bool) (ps : List Pair) (n m boxes tracks : ℕ) : Type 0 where
+  pub boxes-all : n ≤ boxes
+  pub tracks-all : m ≤ tracks
+  pub boxes-fit : length (leftBoxes ok ps n) ≤ n
+  pub tracks-fit : length (leftTracks ok ps m) ≤ m
+
+pub record LeftOver (ok : Pair → Bool) (ps : List Pair) (n m : ℕ) (boxes tracks : List ℕ) (r : Left) (boxes′ tracks′ : List ℕ) : Type 0 where
+  pub boxes-are : Pushed boxes (leftBoxes ok ps n) (r .boxes) boxes′
+  pub tracks-are : Pushed tracks (leftTracks ok ps m) (r .tracks) tracks′
+
+-- ---- all lists
+
+-- a column for each row, none twice
+pub record Rowed (n m : ℕ) (partner : List ℕ) : Type 0 where
+  pub long : length partner ≡ n
+  pub boxes-once : (b : ℕ) → occurs b (boxesOf (held m partner)) ≤ bit (ltb b n)
+  pub tracks-once : (k : ℕ) → occurs k (tracksOf (held m partner)) ≤ bit (ltb k m)
+
+pub record ListRoom (n m pairs partners boxes tracks : ℕ) : Type 0 where
+  pub pairs-fit : lesser n m ≤ pairs
+  pub partners-fit : lesser n m ≤ partners
+  pub boxes-all : n ≤ boxes
+  pub tracks-all : m ≤ tracks
+
+pub record Listing (ok : Pair → Bool) (n m : ℕ) (ps : List Pair) (pairBoxes pairTracks boxes tracks : List ℕ) (r : Lists) (pairBoxes′ pairTracks′ boxes′ tracks′ : List ℕ) : Type 0 where
+  pub pairs : Wrote (sieve ok ps) pairBoxes pairTracks (r .pairs) pairBoxes′ pairTracks′
+  pub left-boxes : Pushed boxes (leftBoxes ok ps n) (r .boxes) boxes′
+  pub left-tracks : Pushed tracks (leftTracks ok ps m) (r .tracks) tracks′
+
+-- what an accepted call of linear_assignment has been found to hold
+pub record AssignmentReady (n m ious costs pairs partners boxes tracks work : ℕ) : Type 0 where
+  pub few-rows : n ≤ 255
+  pub few-cols : m ≤ 255
+  pub long-iou : ious ≡ n * m
+  pub long-cost : costs ≡ n * m
+  pub room : ListRoom n m pairs partners boxes tracks
+  pub room-work : greater n m * greater n m ≤ work
+
+pub record AssignmentDone (a : Assignment) (pairBoxes pairTracks boxes tracks : List ℕ) (work : List Float) (r : AssignmentCounts) (pairBoxes′ pairTracks′ boxes′ tracks′ : List ℕ) (work′ : List Float) : Type 0 where
+  pub counts : r ≡ assignmentCounts a
+  pub pair-boxes : pairBoxes′ ≡ over (boxesOf (a .matches)) pairBoxes
+  pub pair-tracks : pairTracks′ ≡ over (tracksOf (a .matches)) pairTracks
+  pub left-boxes : boxes′ ≡ over (a .unmatchedDetections) boxes
+  pub left-tracks : tracks′ ≡ over (a .unmatchedTracks) tracks
+  pub work-is : work′ ≡ zeroed work

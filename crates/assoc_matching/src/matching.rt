@@ -1,0 +1,402 @@
+// match_detections of assoc.rs: pairs of boxes (rows) and tracks (columns) from a matrix of costs.
+//
+// Both of the Rust's paths give a row at most one column, so inside the pairs are a list of bytes:
+// for each row its column, or ncols where it has none.
+ghost use mathlib.Core.Path.{_≡_};
+ghost use mathlib.Core.Bool.{cond};
+ghost use Prim.Native.Nat.{_+_, _*_, _≤_, _<_};
+ghost use lib.Dec.{leb, ltb};
+ghost use lib.ListN.{length, getD};
+ghost use lib.Ieee.{lt};
+ghost use Rattle.laws.specs.Tab.{tab};
+ghost use Rattle.laws.specs.Count.{bit};
+ghost use Rattle.laws.specs.Most.{most, greater, lesser};
+ghost use Rattle.assoc_matching.specs.Matching.{above, costCell, costVec, matchDetections};
+ghost use Rattle.assoc_matching.specs.Answers.{zeroed, MatchEnds};
+ghost use Rattle.assoc_matching.specs.PrivateMatching.{column, held, Sized, RowIn, RowOut, Clean, Direct, Whole, Solution, Partnered, Put, PairRoom, Wrote, MatchReady, MatchDone};
+use crate::assignment::assignment_verdict;
+use assoc_similarity::Refusal;
+use assoc_similarity::Verdict;
+
+// The number of pairs, and of lapjv's row turns and column scans: both 0 on the direct path.
+pub struct MatchCounts {
+    pub pairs: usize,
+    pub turns: usize,
+    pub scans: usize,
+}
+
+pub enum MatchAnswer {
+    Matched(MatchCounts),
+    Refused(Refusal),
+}
+
+pub fn larger(a: usize, b: usize) -> usize
+    ensures { λ r. ⌜ r ≡ greater a b ⌝ }
+{
+    if a < b {
+        return b;
+    }
+    a
+}
+
+pub(crate) fn smaller(a: usize, b: usize) -> usize
+    ensures { λ r. ⌜ r ≡ lesser a b ⌝ }
+{
+    if a < b {
+        return a;
+    }
+    b
+}
+
+// ---- the direct path
+
+// How many cells of a row are above the threshold, and the last of them, or ncols.
+pub(crate) struct RowSum {
+    sum: u8,
+    last: usize,
+}
+
+fn one_more(c: f32, threshold: f32, sum: u8) -> u8
+    requires { ⌜ sum < 255 ⌝ }
+    ensures { λ r. ⌜ r ≡ sum + bit (lt threshold c) ⌝ }
+{
+    if c > threshold {
+        return sum + 1;
+    }
+    sum
+}
+
+fn later(c: f32, threshold: f32, j: usize, last: usize) -> usize
+    ensures { λ r. ⌜ r ≡ cond (lt threshold c) j last ⌝ }
+{
+    if threshold < c {
+        return j;
+    }
+    last
+}
+
+// Adds the row that starts at the flat place `at` to the sums of the columns.
+fn sum_row(cost: &[f32], at: usize, ncols: usize, threshold: f32, sums: &mut [u8]) -> RowSum
+    requires { ⌜ RowIn (length (now cost)) at ncols (now sums) ⌝ }
+    ensures { λ r. ⌜ RowOut (above (now (cost .entry)) threshold at) ncols (now (sums .entry)) r (now (sums .exit)) ⌝ }
+{
+    let mut sum = 0u8;
+    let mut last = ncols;
+    let mut j = 0;
+    while j < ncols {
+        let c = cost[at + j];
+        sum = one_more(c, threshold, sum);
+        last = later(c, threshold, j, last);
+        sums[j] = one_more(c, threshold, sums[j]);
+        j += 1;
+    }
+    RowSum {
+        sum: sum,
+        last: last,
+    }
+}
+
+fn at_most_one(sums: &[u8]) -> bool
+    ensures { λ r. ⌜ r ≡ leb (most (λ j. getD (now (sums .entry)) j 0) (length (now (sums .entry)))) 1 ⌝ }
+{
+    let mut j = 0;
+    while j < sums.len() {
+        let sum = sums[j];
+        if 1 < sum {
+            return false;
+        }
+        j += 1;
+    }
+    true
+}
+
+// Whether no row and no column has more than one cost above the threshold: then each row's column is in `partner`.
+fn direct_with(
+    cost: &[f32],
+    nrows: usize,
+    ncols: usize,
+    threshold: f32,
+    partner: &mut [u8],
+    sums: &mut [u8],
+) -> bool
+    requires sides { ⌜ Sized nrows ncols (length (now cost)) ⌝ }
+    requires rows { ⌜ length (now partner) ≡ nrows ⌝ }
+    requires zeros { ⌜ Clean ncols 0 (now sums) ⌝ }
+    ensures { λ r. ⌜ Direct (now (cost .entry)) nrows ncols threshold r (now (partner .exit)) ⌝ }
+{
+    let mut i = 0;
+    let mut at = 0;
+    while i < nrows {
+        let row = sum_row(cost, at, ncols, threshold, sums);
+        let sum = row.sum;
+        let last = row.last;
+        if 1 < sum {
+            return false;
+        }
+        partner[i] = last as u8;
+        at += ncols;
+        i += 1;
+    }
+    at_most_one(sums)
+}
+
+fn direct(cost: &[f32], nrows: usize, ncols: usize, threshold: f32, partner: &mut [u8]) -> bool
+    requires sides { ⌜ Sized nrows ncols (length (now cost)) ⌝ }
+    requires rows { ⌜ length (now partner) ≡ nrows ⌝ }
+    ensures { λ r. ⌜ Direct (now (cost .entry)) nrows ncols threshold r (now (partner .exit)) ⌝ }
+{
+    let mut sums = [0u8; 255];
+    direct_with(cost, nrows, ncols, threshold, partner, &mut sums[..ncols])
+}
+
+// ---- the path by lapjv
+
+// A cell of cost_vec: negated in f32, then widened; 1e6 outside of the costs.
+fn cost_cell(cost: &[f32], nrows: usize, ncols: usize, i: usize, j: usize) -> f64
+    requires sides { ⌜ Sized nrows ncols (length (now cost)) ⌝ }
+    requires row { ⌜ i ≤ 255 ⌝ }
+    ensures { λ r. ⌜ r ≡ costCell (now (cost .entry)) nrows ncols i j ⌝ }
+{
+    if nrows <= i {
+        return 1000000.0;
+    }
+    if ncols <= j {
+        return 1000000.0;
+    }
+    std::num::f32_to_f64_with_nan(-cost[i * ncols + j]) - 1e-12 * (i as f64)
+}
+
+fn cost_row(cost: &[f32], nrows: usize, ncols: usize, i: usize, row: &mut [f64])
+    requires sides { ⌜ Sized nrows ncols (length (now cost)) ⌝ }
+    requires row { ⌜ i ≤ 255 ⌝ }
+    ensures { λ _. ⌜ now (row .exit) ≡ tab (costCell (now (cost .entry)) nrows ncols i) (length (now (row .entry))) ⌝ }
+{
+    let mut j = 0;
+    while j < row.len() {
+        row[j] = cost_cell(cost, nrows, ncols, i, j);
+        j += 1;
+    }
+}
+
+fn cost_square(cost: &[f32], nrows: usize, ncols: usize, n: usize, work: &mut [f64])
+    requires sides { ⌜ Sized nrows ncols (length (now cost)) ⌝ }
+    requires square { ⌜ Sized n n (length (now work)) ⌝ }
+    ensures { λ _. ⌜ now (work .exit) ≡ costVec (now (cost .entry)) nrows ncols n ⌝ }
+{
+    let mut i = 0;
+    let mut at = 0;
+    while i < n {
+        cost_row(cost, nrows, ncols, i, &mut work[at..at + n]);
+        at += n;
+        i += 1;
+    }
+}
+
+// The column of a row as the pairs have it: j, or ncols where it is a filling column.
+fn column_of(j: usize, ncols: usize) -> u8
+    requires { ⌜ ncols ≤ 255 ⌝ }
+    ensures { λ r. ⌜ r ≡ column ncols j ⌝ }
+{
+    if j < ncols {
+        return j as u8;
+    }
+    ncols as u8
+}
+
+fn columns(x: &[usize], ncols: usize, partner: &mut [u8])
+    requires { ⌜ (length (now partner) ≤ length (now x)) × (ncols ≤ 255) ⌝ }
+    ensures { λ _. ⌜ now (partner .exit) ≡ tab (λ i. column ncols (getD (now (x .entry)) i 0)) (length (now (partner .entry))) ⌝ }
+{
+    let mut i = 0;
+    while i < partner.len() {
+        partner[i] = column_of(x[i], ncols);
+        i += 1;
+    }
+}
+
+fn solve_with(
+    cost: &[f32],
+    nrows: usize,
+    ncols: usize,
+    n: usize,
+    work: &mut [f64],
+    partner: &mut [u8],
+    x: &mut [usize],
+    y: &mut [usize],
+) -> lapjv::Counts
+    requires sides { ⌜ Sized nrows ncols (length (now cost)) ⌝ }
+    requires square { ⌜ Whole nrows ncols n (length (now work)) (length (now x)) (length (now y)) ⌝ }
+    requires rows { ⌜ length (now partner) ≡ nrows ⌝ }
+    ensures { λ r. ⌜ Solution (now (cost .entry)) nrows ncols r (now (partner .exit)) ⌝ }
+{
+    cost_square(cost, nrows, ncols, n, work);
+    let lapjv::Answer::Assigned(counts) = lapjv::lapjv(n, work, x, y) else {
+        return lapjv::Counts { turns: 0, scans: 0 };
+    };
+    columns(x, ncols, partner);
+    counts
+}
+
+fn solve(
+    cost: &[f32],
+    nrows: usize,
+    ncols: usize,
+    n: usize,
+    work: &mut [f64],
+    partner: &mut [u8],
+) -> lapjv::Counts
+    requires sides { ⌜ Sized nrows ncols (length (now cost)) ⌝ }
+    requires square { ⌜ Whole nrows ncols n (length (now work)) n n ⌝ }
+    requires rows { ⌜ length (now partner) ≡ nrows ⌝ }
+    ensures { λ r. ⌜ Solution (now (cost .entry)) nrows ncols r (now (partner .exit)) ⌝ }
+{
+    let mut x = [0usize; 255];
+    let mut y = [0usize; 255];
+    solve_with(
+        cost,
+        nrows,
+        ncols,
+        n,
+        work,
+        partner,
+        &mut x[..n],
+        &mut y[..n],
+    )
+}
+
+// ---- both
+
+// For each row its column, or ncols; and lapjv's counts.
+pub(crate) fn find_partners(
+    cost: &[f32],
+    nrows: usize,
+    ncols: usize,
+    threshold: f32,
+    work: &mut [f64],
+    partner: &mut [u8],
+) -> lapjv::Counts
+    requires sides { ⌜ Sized nrows ncols (length (now cost)) ⌝ }
+    requires square { ⌜ greater nrows ncols * greater nrows ncols ≤ length (now work) ⌝ }
+    requires rows { ⌜ length (now partner) ≡ nrows ⌝ }
+    ensures { λ r. ⌜ Partnered (now (cost .entry)) nrows ncols threshold r (now (partner .exit)) ⌝ }
+{
+    if direct(cost, nrows, ncols, threshold, partner) {
+        return lapjv::Counts { turns: 0, scans: 0 };
+    }
+    let n = larger(nrows, ncols);
+    let cells = n * n;
+    solve(cost, nrows, ncols, n, &mut work[..cells], partner)
+}
+
+pub(crate) fn clear(work: &mut [f64])
+    ensures { λ _. ⌜ now (work .exit) ≡ zeroed (now (work .entry)) ⌝ }
+{
+    let mut i = 0;
+    while i < work.len() {
+        work[i] = 0.0;
+        i += 1;
+    }
+}
+
+// Stores the pair i, j at place k, if j is a column; how many are stored then.
+pub(crate) fn put(
+    boxes: &mut [usize],
+    tracks: &mut [usize],
+    k: usize,
+    i: usize,
+    j: usize,
+    ncols: usize,
+) -> usize
+    requires { ⌜ (j < ncols → (k < length (now boxes)) × (k < length (now tracks))) ⌝ }
+    ensures { λ r. ⌜ Put (ltb j ncols) k i j (now (boxes .entry)) (now (tracks .entry)) r (now (boxes .exit)) (now (tracks .exit)) ⌝ }
+{
+    if j < ncols {
+        boxes[k] = i;
+        tracks[k] = j;
+        return k + 1;
+    }
+    k
+}
+
+fn write_pairs(partner: &[u8], ncols: usize, boxes: &mut [usize], tracks: &mut [usize]) -> usize
+    requires { ⌜ PairRoom (held ncols (now partner)) (length (now boxes)) (length (now tracks)) ⌝ }
+    ensures { λ r. ⌜ Wrote (held ncols (now (partner .entry))) (now (boxes .entry)) (now (tracks .entry)) r (now (boxes .exit)) (now (tracks .exit)) ⌝ }
+{
+    let mut k = 0;
+    let mut i = 0;
+    while i < partner.len() {
+        let j = partner[i] as usize;
+        k = put(boxes, tracks, k, i, j, ncols);
+        i += 1;
+    }
+    k
+}
+
+// ---- match_detections
+
+fn match_with(
+    cost: &[f32],
+    nrows: usize,
+    ncols: usize,
+    threshold: f32,
+    boxes: &mut [usize],
+    tracks: &mut [usize],
+    work: &mut [f64],
+    partner: &mut [u8],
+) -> MatchCounts
+    requires ready { ⌜ MatchReady nrows ncols (length (now cost)) (length (now boxes)) (length (now tracks)) (length (now work)) ⌝ }
+    requires rows { ⌜ length (now partner) ≡ nrows ⌝ }
+    ensures { λ r. ⌜ MatchDone (matchDetections (now (cost .entry)) nrows ncols threshold) (now (boxes .entry)) (now (tracks .entry)) (now (work .entry)) r (now (boxes .exit)) (now (tracks .exit)) (now (work .exit)) ⌝ }
+{
+    let counts = find_partners(cost, nrows, ncols, threshold, work, partner);
+    clear(work);
+    let pairs = write_pairs(partner, ncols, boxes, tracks);
+    MatchCounts {
+        pairs: pairs,
+        turns: counts.turns,
+        scans: counts.scans,
+    }
+}
+
+// The pairs of the boxes and tracks of a cost matrix: direct where no row and no column has more than
+// one cost above the threshold, and by lapjv elsewhere.
+pub fn match_detections(
+    boxes: usize,
+    tracks: usize,
+    cost: &[f32],
+    threshold: f32,
+    pair_boxes: &mut [usize],
+    pair_tracks: &mut [usize],
+    work: &mut [f64],
+) -> MatchAnswer
+    ensures { λ r. ⌜ MatchEnds boxes tracks (now (cost .entry)) threshold (now («pair_boxes» .entry)) (now («pair_tracks» .entry)) (now (work .entry))
+        r (now («pair_boxes» .exit)) (now («pair_tracks» .exit)) (now (work .exit)) ⌝ }
+{
+    // As linear_assignment's, for one matrix and with room for all that is left.
+    let verdict = assignment_verdict(
+        boxes,
+        tracks,
+        cost.len(),
+        cost.len(),
+        pair_boxes.len(),
+        pair_tracks.len(),
+        boxes,
+        tracks,
+        work.len(),
+    );
+    if let Verdict::Refused(why) = verdict {
+        return MatchAnswer::Refused(why);
+    }
+    let mut partner = [0u8; 255];
+    let counts = match_with(
+        cost,
+        boxes,
+        tracks,
+        threshold,
+        pair_boxes,
+        pair_tracks,
+        work,
+        &mut partner[..boxes],
+    );
+    MatchAnswer::Matched(counts)
+}

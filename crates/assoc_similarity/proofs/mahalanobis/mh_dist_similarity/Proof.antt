@@ -1,0 +1,33 @@
+-- `mahalanobis::mh_dist_similarity` meets its contract: a refused call hands the verdict back, and an accepted one works on a copy of the distances. Assumes nothing.
+use mathlib.Core.Path.{sym, _∙_}
+use lib.ListN.{length}
+use denote.Ref.{now}
+use native.Mathlib.Omega.{arith}
+use borrow.Author.Needs.{needs}
+use Rattle.assoc_similarity.proofs.Verdicts.{distances-fit}
+use Rattle.assoc_similarity.proofs.Softmax.{of-copied}
+use Rattle.assoc_similarity.proofs.mahalanobis.mh_dist_similarity.Statement.{statement}
+use Rattle.assoc_similarity.proofs.mahalanobis.mh_dist_similarity.Tie as tie
+
+returns : tie.Need-returns
+returns c = (c .before .before .of-distances .ensures, rw (c .enum-told2 .given .1))
+
+copy-requires : tie.Need-copy-requires
+copy-requires c κs =
+    let a = c .before .before .before .before .before .before .args in
+    let fit = distances-fit (a .boxes) (a .tracks) (length (now (a .distance))) (length (now (a .out))) (sym (c .before .before .before .of-distances .ensures) ∙ c .before .enum-told .given .1) in
+    omega (arith, fit .0, fit .1 .room)
+
+mh-matrix-requires : tie.Need-mh-matrix-requires
+mh-matrix-requires c κs = let fit = distances-fit _ _ _ _ (sym (c .before .before .before .before .before .before .before .of-distances .ensures) ∙ c .before .before .before .before .before .enum-told .given .1) in rw (c .before .before .before .copy .kept .1 .0) (fit .1)
+
+returns-2 : tie.Need-returns-2
+returns-2 c =
+    let told = c .before .before .before .before .before .before .before .before .enum-told .given .1 in
+    let verdict = c .before .before .before .before .before .before .before .before .before .before .of-distances .ensures in
+    let a = c .before .before .before .before .before .before .before .before .before .before .before .before .before .args in
+    let fit = distances-fit (a .boxes) (a .tracks) (length (now (a .distance))) (length (now (a .out))) (sym verdict ∙ told) in
+    (verdict, rw told (c .before .before .mh-matrix .ensures ∙ of-copied (now (a .distance)) (now (a .out)) _ (a .softmax-temp) (a .boxes) (a .tracks) (fit .0) (c .before .before .before .before .before .before .copy .ensures)))
+
+pub mh-dist-similarity-spec : {M : Type 1} → statement M
+mh-dist-similarity-spec = tie.close (tie.spec (λ c κs. tt) (λ c. search needs) (λ c. search needs) returns copy-requires mh-matrix-requires (λ c. search needs) returns-2)

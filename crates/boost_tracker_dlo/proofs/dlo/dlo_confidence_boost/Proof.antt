@@ -1,0 +1,36 @@
+-- `dlo::dlo_confidence_boost` meets its contract: a refused call hands the verdict back, and an accepted one boosts. Assumes nothing.
+use denote.Ref.{now}
+use mathlib.Core.Path.{_∙_, sym}
+use native.Mathlib.Omega.{arith}
+use Rattle.boost_tracker_dlo.proofs.DloLaws.{mhd-accepted, mhd-refused}
+use Rattle.boost_tracker_dlo.proofs.Verdicts.{dlo-ready}
+use Rattle.boost_tracker_dlo.proofs.dlo.dlo_confidence_boost.Statement.{statement}
+use Rattle.boost_tracker_dlo.proofs.dlo.dlo_confidence_boost.Tie as tie
+
+returns : tie.Need-returns
+returns c =
+    let w = c .before .before .before .before .before .before .before .before .before .args in
+    (c .before .before .of-dlo .ensures, (mhd-refused (w .q) (now (w .distance)) (w .boxes) (w .tracks) (c .enum-told2 .given .1), rw (c .enum-told2 .given .1)))
+
+dlo-requires : tie.Need-dlo-requires
+dlo-requires c κs =
+    let w = c .before .before .before .before .before .before .before .before .before .before .before .args in
+    dlo-ready (w .boxes) (w .tracks) _ _ _ _ _ _ (sym (c .before .before .before .before .of-dlo .ensures) ∙ c .before .before .enum-told .given .1)
+
+returns-2 : tie.Need-returns-2
+returns-2 c =
+    let w = c .before .before .before .before .before .before .before .before .before .before .before .before .before .before .before .before .args in
+    let told = c .before .before .before .before .before .before .before .enum-told .given .1 in
+    (c .before .before .before .before .before .before .before .before .before .of-dlo .ensures, (mhd-accepted (w .q) (now (w .distance)) (w .boxes) (w .tracks) told (c .before .before .before .before .dlo .ensures .0), rw told (c .before .before .before .before .dlo .ensures .1)))
+
+pub dlo-confidence-boost-spec : {M : Type 1} → statement M
+dlo-confidence-boost-spec =
+    tie.close
+    (tie.spec (λ c κs. tt)
+    (λ c. omega arith)
+    (λ c. omega arith)
+    returns
+    dlo-requires
+    (λ c. omega arith)
+    (λ c. omega arith)
+    returns-2)

@@ -1,0 +1,60 @@
+// The verdict on a call, from its sides and the lengths of its slices.
+use assoc_similarity::Refusal;
+use assoc_similarity::Verdict;
+use boost_tracker_boosts::of_boost;
+use boost_tracker_boosts::too_many;
+ghost use mathlib.Core.Path.{_≡_};
+ghost use Prim.Native.Nat.{_≤_};
+ghost use Rattle.boost_tracker_dlo.specs.Sizes as Sizes;
+
+// The verdict on a matrix of distances.
+pub(crate) fn of_states(
+    boxes: usize,
+    tracks: usize,
+    detections: usize,
+    x: usize,
+    sigma: usize,
+    out: usize,
+) -> Verdict
+    ensures { λ r. ⌜ r ≡ Sizes.ofStates boxes tracks detections x sigma out ⌝ }
+{
+    if too_many(boxes, tracks) {
+        return Verdict::Refused(Refusal::TooMany);
+    }
+    if (detections != boxes * 4) | (x != tracks * 4) | (sigma != tracks * 4) {
+        return Verdict::Refused(Refusal::OtherSize);
+    }
+    if out < boxes * tracks {
+        return Verdict::Refused(Refusal::TooShort);
+    }
+    Verdict::Accepted
+}
+
+fn other_tracks(tracks: usize, corners: usize, confidences: usize, since: usize) -> bool
+    requires { ⌜ tracks ≤ 255 ⌝ }
+    ensures { λ r. ⌜ r ≡ Sizes.otherTracks tracks corners confidences since ⌝ }
+{
+    (corners != tracks * 4) | (confidences != tracks) | (since != tracks)
+}
+
+// The verdict on a DLO boost.
+pub(crate) fn of_dlo(
+    boxes: usize,
+    tracks: usize,
+    detections: usize,
+    corners: usize,
+    confidences: usize,
+    since: usize,
+    distance: usize,
+    scores: usize,
+) -> Verdict
+    ensures { λ r. ⌜ r ≡ Sizes.ofDlo boxes tracks detections corners confidences since distance scores ⌝ }
+{
+    if too_many(boxes, tracks) {
+        return Verdict::Refused(Refusal::TooMany);
+    }
+    if other_tracks(tracks, corners, confidences, since) {
+        return Verdict::Refused(Refusal::OtherSize);
+    }
+    of_boost(boxes, tracks, detections, distance, scores)
+}

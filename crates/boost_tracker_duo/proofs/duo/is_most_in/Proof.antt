@@ -1,0 +1,43 @@
+-- `duo::is_most_in` meets its contract: the candidate's score against the largest of its row's args_tmp and itself. Assumes nothing.
+use borrow.Author.Needs.{needs}
+use denote.Ref.{now}
+use lib.ListN.{length}
+use mathlib.Core.Path.{_∙_, ap}
+use native.Mathlib.Omega.{arith}
+use Rattle.boost_tracker_duo.proofs.CandidateLaws.{conf-row-is}
+use Rattle.boost_tracker_duo.specs.Private.{mostOf, own}
+use Rattle.laws.specs.Tab.{length-tab}
+use Rattle.boost_tracker_duo.proofs.duo.is_most_in.Statement.{statement}
+use Rattle.boost_tracker_duo.proofs.duo.is_most_in.Tie as tie
+
+bdiou-row-requires : tie.Need-bdiou-row-requires
+bdiou-row-requires c κs = let p = c .before .before .before .before .before .before .pre in rw (p .1) (p .0 .bboxes-fit, (p .0 .few, p .0 .inside))
+
+mul-score : tie.Need-mul-score
+mul-score c = omega (arith, c .before .before .before .before .before .before .before .before .before .before .pre .0 .scored (c .before .before .before .before .before .before .before .before .before .before .args .i) (c .before .before .before .before .before .before .before .before .before .before .pre .0 .inside))
+
+shared-slice-read-score : tie.Need-shared-slice-read-score
+shared-slice-read-score c = omega (arith, c .before .before .before .before .before .before .before .before .before .before .before .pre .0 .scored (c .before .before .before .before .before .before .before .before .before .before .before .args .i) (c .before .before .before .before .before .before .before .before .before .before .before .pre .0 .inside))
+
+conf-row-requires : tie.Need-conf-row-requires
+conf-row-requires c κs = let p = c .before .before .before .before .before .before .before .before .before .before .before .before .pre in (p .0 .scored, (ap length (c .before .before .before .before .before .bdiou-row .ensures) ∙ length-tab _ _ ∙ p .1, p .0 .max-fits))
+
+returns : tie.Need-returns
+unfolding mostOf
+returns c =
+    let start = c .before .before .before .before .before .before .before .before .before .before .before .before .before .before in
+    let w = start .args in
+    rw (c .max .ensures, c .before .conf-row .ensures, conf-row-is (own (now (w .bboxes)) (w .i)) _ (now (w .max)) (now (w .candidates)) (now (w .scores)) (c .before .before .before .before .before .before .before .bdiou-row .ensures) (start .pre .1))
+
+pub is-most-in-spec : {M : Type 1} → statement M
+is-most-in-spec =
+    tie.close
+    (tie.spec bdiou-row-requires
+    (λ c. search needs)
+    (λ c. search needs)
+    mul-score
+    shared-slice-read-score
+    conf-row-requires
+    (λ c κs. search needs)
+    (λ c. search needs)
+    returns)

@@ -1,0 +1,197 @@
+// Steps 6 and 7 of a frame, what follows of its pairs: the tracks corrected by their boxes, and those started for the boxes without one.
+use assoc::AssignmentCounts;
+use strack::rect::Xyxy;
+use strack::strack::KalmanBoxTracker;
+ghost use mathlib.Core.Path.{_≡_};
+ghost use mathlib.Core.Bool.{cond, _&&_};
+ghost use mathlib.Core.List.{_++_};
+ghost use Prim.Native.Nat.{_+_, _*_, _/_, _≤_, _<_, _^_};
+ghost use lib.Dec.{leb};
+ghost use lib.ListN.{length, getD, take};
+ghost use Rattle.laws.specs.Scan.{lowest};
+ghost use Rattle.boost_tracker_dlo.specs.MhDist.{det};
+ghost use Rattle.boost_tracker_table.specs.Table as Table;
+ghost use Rattle.boost_tracker_table.specs.Table.{tracks, Laying};
+ghost use Rattle.boost_tracker_definition.specs.Plain.{correctedBy, startedBy};
+ghost use Rattle.boost_tracker_follow.specs.Corrections as Follow;
+ghost use Rattle.boost_tracker_follow.specs.Corrections.{Listed, inside, followable};
+
+// Box i of a list of corners.
+fn det(corners: &[f32], i: usize) -> Xyxy
+    requires { ⌜ i * 4 + 4 ≤ length (now corners) ⌝ }
+    ensures { λ r. ⌜ r ≡ det (now (corners .entry)) i ⌝ }
+{
+    let at = i * 4;
+    Xyxy {
+        x1: corners[at],
+        y1: corners[at + 1],
+        x2: corners[at + 2],
+        y2: corners[at + 3],
+    }
+}
+
+// ---- step 6
+
+fn correct_matched(
+    floats: &mut [f32],
+    counters: &mut [u64],
+    held: usize,
+    corners: &[f32],
+    pair_boxes: &[usize],
+    pair_tracks: &[usize],
+)
+    requires sizes { ⌜ (held ≤ Table.capacity (length (now floats)) (length (now counters))) × (length (now «pair_tracks») ≡ length (now «pair_boxes»)) ⌝ }
+    requires within { ⌜ Listed (now «pair_boxes») (length (now corners)) ⌝ }
+    ensures { λ _. ⌜ Laying (now (floats .entry)) (now (counters .entry)) (now (floats .exit)) (now (counters .exit)) (correctedBy (now (corners .entry)) (now («pair_boxes» .entry)) (now («pair_tracks» .entry)) (tracks (now (floats .entry)) (now (counters .entry)) held)) ⌝ }
+{
+    let mut k = 0;
+    while k < pair_boxes.len() {
+        boost_tracker_table::correct(
+            floats,
+            counters,
+            held,
+            pair_tracks[k],
+            det(corners, pair_boxes[k]),
+        );
+        k += 1;
+    }
+}
+
+// ---- step 7: every retained score is at least det_thresh, so the Rust's test is left out
+
+fn start_unmatched(
+    floats: &mut [f32],
+    counters: &mut [u64],
+    held: usize,
+    last: u64,
+    corners: &[f32],
+    unmatched: &[usize],
+)
+    requires sizes { ⌜ (held + length (now unmatched) ≤ Table.capacity (length (now floats)) (length (now counters))) × (last + 255 < 2 ^ 64) ⌝ }
+    requires within { ⌜ Listed (now unmatched) (length (now corners)) ⌝ }
+    ensures { λ _. ⌜ Laying (now (floats .entry)) (now (counters .entry)) (now (floats .exit)) (now (counters .exit)) (tracks (now (floats .entry)) (now (counters .entry)) held ++ startedBy last (now (corners .entry)) (now (unmatched .entry))) ⌝ }
+{
+    let mut id = last;
+    let mut k = 0;
+    while k < unmatched.len() {
+        id += 1;
+        let t = KalmanBoxTracker::new(det(corners, unmatched[k]), id);
+        boost_tracker_table::append(floats, counters, held + k, t);
+        k += 1;
+    }
+}
+
+// ---- both
+
+// The first index that is not below n, or the number of indices.
+fn first_outside(indices: &[usize], n: usize) -> usize
+    ensures { λ r. ⌜ r ≡ lowest (λ k. leb n (getD (now (indices .entry)) k 0)) (length (now (indices .entry))) ⌝ }
+{
+    let mut k = 0;
+    while k < indices.len() {
+        let i = indices[k];
+        if i >= n {
+            return k;
+        }
+        k += 1;
+    }
+    k
+}
+
+fn all_inside(indices: &[usize], n: usize) -> bool
+    ensures { λ r. ⌜ r ≡ inside (now (indices .entry)) n ⌝ }
+{
+    let outside = first_outside(indices, n);
+    indices.len() <= outside
+}
+
+// Whether the counts are within their lists, the tracks within the table and the ids within 64 bits.
+fn fits(
+    held: usize,
+    places: usize,
+    last: u64,
+    counts: AssignmentCounts,
+    pair_boxes: usize,
+    pair_tracks: usize,
+    unmatched: usize,
+) -> bool
+    ensures { λ r. ⌜ r ≡ Follow.fits held places last (counts .pairs) (counts .detections) «pair_boxes» «pair_tracks» unmatched ⌝ }
+{
+    if held > places {
+        return false;
+    }
+    (counts.detections <= places - held)
+        & ((counts.pairs <= pair_boxes) & (counts.pairs <= pair_tracks))
+        & ((counts.detections <= unmatched) & (last < 18446744073709551361))
+}
+
+// Where every index is of a box.
+fn follow_listed(
+    floats: &mut [f32],
+    counters: &mut [u64],
+    held: usize,
+    last: u64,
+    corners: &[f32],
+    pair_boxes: &[usize],
+    pair_tracks: &[usize],
+    unmatched: &[usize],
+) -> bool
+    requires sizes { ⌜ (held + length (now unmatched) ≤ Table.capacity (length (now floats)) (length (now counters))) × (last + 255 < 2 ^ 64) ⌝ }
+    requires halves { ⌜ length (now «pair_tracks») ≡ length (now «pair_boxes») ⌝ }
+    ensures told { λ r. ⌜ r ≡ (inside (now («pair_boxes» .entry)) (length (now (corners .entry)) / 4) && inside (now (unmatched .entry)) (length (now (corners .entry)) / 4)) ⌝ }
+    ensures laid { λ r. ⌜ Laying (now (floats .entry)) (now (counters .entry)) (now (floats .exit)) (now (counters .exit))
+        (cond r (correctedBy (now (corners .entry)) (now («pair_boxes» .entry)) (now («pair_tracks» .entry)) (tracks (now (floats .entry)) (now (counters .entry)) held)
+        ++ startedBy last (now (corners .entry)) (now (unmatched .entry))) (tracks (now (floats .entry)) (now (counters .entry)) held)) ⌝ }
+{
+    let boxes = corners.len() / 4;
+    let known = all_inside(pair_boxes, boxes) & all_inside(unmatched, boxes);
+    if !known {
+        return false;
+    }
+    correct_matched(floats, counters, held, corners, pair_boxes, pair_tracks);
+    start_unmatched(floats, counters, held, last, corners, unmatched);
+    true
+}
+
+// The matched tracks are corrected, and tracks started behind them. Whether that was done: counts, indices, places and ids have to fit, and where they do not the table is left.
+pub fn follow(
+    floats: &mut [f32],
+    counters: &mut [u64],
+    held: usize,
+    last: u64,
+    corners: &[f32],
+    counts: AssignmentCounts,
+    pair_boxes: &[usize],
+    pair_tracks: &[usize],
+    unmatched: &[usize],
+) -> bool
+    ensures told { λ r. ⌜ r ≡ followable held (Table.capacity (length (now (floats .entry))) (length (now (counters .entry)))) last (length (now (corners .entry)) / 4) (counts .pairs) (counts .detections) (now («pair_boxes» .entry)) (length (now («pair_tracks» .entry))) (now (unmatched .entry)) ⌝ }
+    ensures laid { λ r. ⌜ Laying (now (floats .entry)) (now (counters .entry)) (now (floats .exit)) (now (counters .exit))
+        (cond r (correctedBy (now (corners .entry)) (take (counts .pairs) (now («pair_boxes» .entry))) (take (counts .pairs) (now («pair_tracks» .entry))) (tracks (now (floats .entry)) (now (counters .entry)) held)
+        ++ startedBy last (now (corners .entry)) (take (counts .detections) (now (unmatched .entry)))) (tracks (now (floats .entry)) (now (counters .entry)) held)) ⌝ }
+{
+    let places = boost_tracker_table::capacity(floats.len(), counters.len());
+    if !fits(
+        held,
+        places,
+        last,
+        counts,
+        pair_boxes.len(),
+        pair_tracks.len(),
+        unmatched.len(),
+    ) {
+        return false;
+    }
+    let pairs = counts.pairs;
+    let started = counts.detections;
+    follow_listed(
+        floats,
+        counters,
+        held,
+        last,
+        corners,
+        &pair_boxes[..pairs],
+        &pair_tracks[..pairs],
+        &unmatched[..started],
+    )
+}

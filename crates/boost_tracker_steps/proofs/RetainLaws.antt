@@ -1,0 +1,89 @@
+-- The boxes that are retained: what the two loops know and leave. Assumes nothing.
+use mathlib.Core.Path.{_≡_, refl, sym, ap, _∙_}
+use mathlib.Core.Bool.{Bool, true, false, cond}
+use mathlib.Core.List.{List, [], _∷_, _++_, map, map-append, append-nil}
+use Prim.Native.Nat.{ℕ, _+_, _-_, _*_, _≤_, _<_, zero-le}
+use native.Mathlib.Numerals.{add-one}
+use native.Mathlib.Omega.{arith}
+use lib.ListN.{length, length-map, getD, set}
+use lib.Seq.{take-at}
+use lib.Ieee.{Float, nan, le}
+use Rattle.laws.specs.Tab.{tab, length-tab, indices}
+use borrow.Rule.Slice.PartMut.{putMid}
+use Rattle.laws.specs.Splice.{splice, mid-splice}
+use Rattle.strack.specs.declared.rect.Xyxy.{Xyxy}
+use Rattle.laws.specs.Laid.{rows, laid, length-rows}
+use Rattle.laws.specs.Sieve.{sieve, maybe, sieve-more, sieve-few}
+use Rattle.laws.specs.Over.{over, Pushed, push-start, push-maybe, over-past}
+use Rattle.boost_tracker_definition.specs.Update.{cornersOf, xyxyOf, remains, remainInds, detBboxes, detScores}
+use Rattle.boost_tracker_steps.specs.Private.{KeptBoxes, Retained}
+
+-- ---- corners
+
+-- four floats stored where they were lent
+pub four-stored : (l : List Float) (at : ℕ) {vs : List Float} {b : Xyxy} → vs ≡ cornersOf b → putMid at (at + 4 - at) l vs ≡ splice l at (cornersOf b)
+four-stored l at {vs} e = mid-splice l at 4 vs (ap length e) ∙ ap (splice l at) e
+
+-- ---- scores
+
+-- the scores of the retained among the first i boxes
+abbrev keptScores : Float → List Float → ℕ → List Float
+keptScores thresh l i = map (λ k. getD l k nan) (sieve (remains thresh l) (indices i))
+
+pub record Scoring (thresh : Float) (l : List Float) (n i w : ℕ) (out : List Float) : Type 0 where
+  pub upto : i ≤ n
+  pub few : w ≤ i
+  pub pushed : Pushed l (keptScores thresh l i) w out
+
+module _ (thresh : Float) (l : List Float) (n : ℕ) where
+  pub score-start : Scoring thresh l n 0 0 l
+  unfolding tab sieve
+  score-start = record { upto = zero-le; few = zero-le; pushed = push-start l }
+
+  kept-more : (i : ℕ) → keptScores thresh l i ++ maybe (remains thresh l i) (getD l i nan) ≡ keptScores thresh l (i + 1)
+  unfolding tab
+  kept-more i = rw (add-one, sieve-more) (by-cases (remains thresh l i))
+    where
+      by-cases : (b : Bool) → map (λ k. getD l k nan) (sieve (remains thresh l) (indices i)) ++ maybe b (getD l i nan)
+          ≡ map (λ k. getD l k nan) (cond b (sieve (remains thresh l) (indices i) ++ (i ∷ [])) (sieve (remains thresh l) (indices i)))
+      by-cases true = sym (map-append (λ k. getD l k nan) (sieve (remains thresh l) (indices i)) (i ∷ []))
+      by-cases false = append-nil _
+
+  module _ {i w : ℕ} {out : List Float} (s : Scoring thresh l n i w out) where
+    -- the score that is looked at is not stored over yet
+    score-ahead : getD out i nan ≡ getD l i nan
+    score-ahead = ap (λ (o : List Float). getD o i nan) (s .pushed .cells) ∙ over-past (keptScores thresh l i) l i nan (let m = s .pushed .many in let f = s .few in omega arith)
+
+    pub score-on : {w′ : ℕ} {out′ : List Float} → i < n → n ≡ length l → w′ ≡ cond (le thresh (getD out i nan)) (w + 1) w → out′ ≡ cond (le thresh (getD out i nan)) (set out w (getD out i nan)) out
+        → Scoring thresh l n (i + 1) w′ out′
+    score-on {w′} {out′} h e ew eo =
+        let few = s .few in
+        let ew′ : w′ ≡ cond (remains thresh l i) (w + 1) w = rw score-ahead at ew in
+        let eo′ : out′ ≡ cond (remains thresh l i) (set out w (getD l i nan)) out = rw score-ahead at eo in
+        record { upto = omega arith; few = low (remains thresh l i) ew′; pushed = rw (← kept-more i) (push-maybe l (remains thresh l i) (getD l i nan) (s .pushed) (λ _. omega arith) ew′ eo′) }
+      where
+        low : (b : Bool) → w′ ≡ cond b (w + 1) w → w′ ≤ i + 1
+        low true e = let f = s .few in omega arith
+        low false e = let f = s .few in omega arith
+
+    pub score-end : n ≤ i → n ≡ length l → Pushed l (detScores l (remainInds thresh l)) w out
+    unfolding detScores remainInds
+    score-end h e = let k : i ≡ length l = let u = s .upto in omega arith in rw k at (s .pushed)
+
+-- ---- both
+
+remain-many : (thresh : Float) (l : List Float) → length (remainInds thresh l) ≤ length l
+unfolding remainInds
+remain-many thresh l = rw (length-tab (λ i. i) (length l)) at (sieve-few (remains thresh l) (indices (length l)))
+
+pub retained-both : (thresh : Float) (objects probs₀ corners₀ : List Float) {probs corners : List Float} {kept w : ℕ} → KeptBoxes thresh objects probs₀ corners₀ corners kept
+    → Pushed probs₀ (detScores probs₀ (remainInds thresh probs₀)) w probs → Retained thresh objects probs₀ probs corners kept
+unfolding detBboxes detScores laid over
+retained-both thresh objects probs₀ corners₀ {probs} {corners} {kept} {w} b s =
+    let inds : List ℕ = remainInds thresh probs₀ in
+    let few : length inds ≤ length probs₀ = remain-many thresh probs₀ in
+    record {
+      corners-are = rw (b .cells, b .count) (take-at (rows (λ i. cornersOf (xyxyOf objects i)) inds) _ (length inds * 4) (length-rows (λ i. cornersOf (xyxyOf objects i)) 4 (λ _. refl) inds));
+      scores-are = rw (s .cells, b .count) (take-at (map (λ i. getD probs₀ i nan) inds) _ (length inds) (length-map inds (λ i. getD probs₀ i nan)));
+      few = rw (b .count) few;
+    }

@@ -1,0 +1,49 @@
+-- `gather::confs` meets its contract. The loop's invariant: the confidences of the first j tracks are stored, and the others as they were. The measure is the number of tracks left. Assumes nothing.
+use Prim.Native.Nat.{_-_}
+use denote.Ref.{now}
+use mathlib.Core.Path.{_∙_, ap, sym}
+use native.Mathlib.Nat.{le-of-eq}
+use native.Mathlib.Omega.{arith}
+use Rattle.laws.specs.Tab.{Filling, fill-on, fill-start, fill-whole}
+use Rattle.strack.specs.declared.strack.KalmanBoxTracker.{KalmanBoxTracker}
+use Rattle.strack.specs.Strack.{getConfidence}
+use Rattle.boost_tracker_table.specs.Table.{tracks}
+use Rattle.boost_tracker_table.specs.Laws.{tracks-many}
+use Rattle.boost_tracker_table.specs.Record.{nineTenths}
+use Rattle.boost_tracker_definition.specs.Update.{trackerAt}
+use Rattle.boost_tracker_steps.proofs.GatherLaws.{confs-are}
+use Rattle.boost_tracker_steps.proofs.gather.confs.Statement.{statement}
+use Rattle.boost_tracker_steps.proofs.gather.confs.Tie as tie
+
+abbrev Inv-loop : tie.InvT-loop
+Inv-loop floats counters held out₀ j₀ out j = Filling (λ k. getConfidence (trackerAt (tracks floats counters held) k) nineTenths) out₀ held j out
+
+abbrev μ-loop : tie.MeasureT-loop
+μ-loop floats counters held out₀ j₀ out j = held - j
+
+loop-again : tie.Need-loop-again Inv-loop μ-loop
+loop-again c =
+    fill-on _ _ _ (c .before .before .before .loop .inv) (c .before .before .loop-test .taken) (le-of-eq (sym (c .before .before .before .before .before .before .before .pre .0)))
+    (c .get-confidence .ensures ∙ ap (λ (t : KalmanBoxTracker). getConfidence t nineTenths) (c .before .load .ensures))
+
+returns : tie.Need-returns Inv-loop μ-loop
+returns c =
+    let a = c .before .before .before .before .before .args in
+    fill-whole _ _ _ (c .before .loop .inv) (c .loop-test .left) (c .before .before .before .before .before .pre .0) ∙ confs-are (tracks (now (a .floats)) (now (a .counters)) (a .held)) (a .held) (tracks-many (now (a .floats)) (now (a .counters)) (a .held) (c .before .before .before .before .before .pre .1))
+
+pub confs-spec : {M : Type 1} → statement M
+confs-spec =
+    tie.close
+    (tie.spec
+    Inv-loop
+    μ-loop
+    (λ c. fill-start _ _ _)
+    (λ c κs. tt)
+    (λ c κs. tt)
+    (λ c. omega (arith, c .before .before .loop-test .taken, c .before .before .before .loop .inv .same, c .before .before .before .before .before .before .before .pre .0))
+    (λ c. omega (arith, c .before .before .loop-test .taken, c .before .before .before .loop .inv .same, c .before .before .before .before .before .before .before .pre .0))
+    (λ c. omega (arith, c .before .before .loop-test .taken, c .before .before .before .before .before .before .before .fits .held))
+    (λ c. omega (arith, c .before .before .loop-test .taken))
+    loop-again
+    (λ c. c .before .loop .inv .same)
+    returns)

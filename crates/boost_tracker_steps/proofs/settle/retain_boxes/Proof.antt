@@ -1,0 +1,43 @@
+-- `settle::retain_boxes` meets its contract. The loop's invariant: of the boxes before i the corners of the retained are in the front, w of them. The measure is the number of boxes left. Assumes nothing.
+use Prim.Native.Nat.{_-_}
+use mathlib.Core.Path.{refl}
+use native.Mathlib.Omega.{arith}
+use lib.ListN.{length}
+use Rattle.laws.specs.Kept.{Keeping, keep-start, keep-on, keep-end}
+use Rattle.boost_tracker_definition.specs.Update.{cornersOf, xyxyOf, remains, remainInds}
+use Rattle.boost_tracker_steps.proofs.settle.retain_boxes.Statement.{statement}
+use Rattle.boost_tracker_steps.proofs.settle.retain_boxes.Tie as tie
+
+abbrev Inv-loop : tie.InvT-loop
+Inv-loop thresh objects scores corners₀ w₀ i₀ corners w i = Keeping (λ k. cornersOf (xyxyOf objects k)) 4 (remains thresh scores) (λ k. k) corners₀ (length scores) i w corners
+
+abbrev μ-loop : tie.MeasureT-loop
+μ-loop thresh objects scores corners₀ w₀ i₀ corners w i = length scores - i
+
+keep-box-requires : tie.Need-keep-box-requires Inv-loop μ-loop
+keep-box-requires c κs =
+    let w = c .before .before .before .loop .inv in
+    (omega (arith, c .before .before .loop-test .taken, c .before .before .before .before .before .before .before .pre .0), omega (arith, c .before .before .loop-test .taken, w .few, w .same, c .before .before .before .before .before .before .before .pre .0, c .before .before .before .before .before .before .before .pre .1))
+
+loop-again : tie.Need-loop-again Inv-loop μ-loop
+loop-again c = keep-on _ _ _ _ _ _ (λ _. refl) (c .before .before .before .before .before .before .loop .inv) (c .before .before .before .before .before .loop-test .taken) (c .before .before .keep-box .ensures .0) (c .before .before .keep-box .ensures .1)
+
+returns : tie.Need-returns Inv-loop μ-loop
+unfolding remainInds
+returns c = let e = keep-end _ _ _ _ _ _ (c .before .loop .inv) (c .loop-test .left) in record { count = e .0; cells = e .1 }
+
+pub retain-boxes-spec : {M : Type 1} → statement M
+retain-boxes-spec =
+    tie.close
+    (tie.spec
+    Inv-loop
+    μ-loop
+    (λ c. keep-start _ _ _ _ _ _ (omega (arith, c .before .before .before .pre .0, c .before .before .before .pre .1)))
+    (λ c. omega (arith, c .loop-test .taken))
+    (λ c. omega (arith, c .before .loop-test .taken))
+    keep-box-requires
+    (λ c. omega (arith, c .before .before .before .before .before .loop-test .taken))
+    (λ c. omega (arith, c .before .before .before .before .before .loop-test .taken))
+    loop-again
+    (λ c. c .before .loop .inv .same)
+    returns)

@@ -1,0 +1,188 @@
+// Steps 1 to 7 of a frame in the Rust's order, where it is accepted.
+use crate::boost::boost;
+use crate::gather::gather;
+use crate::settle::retain;
+use crate::settle::settle;
+use assoc::AssignmentCounts;
+use boost_tracker_table::Settings;
+use boost_tracker_table::State;
+use boost_tracker_table::Verdict;
+use records::BOX_VALUES;
+ghost use mathlib.Core.Path.{_≡_};
+ghost use Prim.Native.Nat.{_+_, _*_};
+ghost use lib.ListN.{length};
+ghost use Rattle.boost_tracker_table.specs.Table.{tracks};
+ghost use Rattle.boost_tracker_table.specs.Verdict.{boxesIn};
+ghost use Rattle.boost_tracker_definition.specs.Update.{steps};
+ghost use Rattle.boost_tracker_steps.specs.Private.{Lent, TrackRoom, SinceLow, Tracked};
+ghost use Rattle.boost_tracker_steps.specs.AllSteps.{refusedAdvance, AdvanceEnds};
+
+// The counts are 0 where the frame is refused.
+pub struct Advanced {
+    pub verdict: Verdict,
+    // tracks started behind those held
+    pub started: usize,
+    pub turns: usize,
+    pub scans: usize,
+}
+
+fn track_with(
+    settings: Settings,
+    frame: u64,
+    last: u64,
+    held: usize,
+    floats: &mut [f32],
+    counters: &mut [u64],
+    objects: &[f32],
+    corners: &mut [f32],
+    scores: &mut [f32],
+    trks: &mut [f32],
+    confs: &mut [f32],
+    work64: &mut [f64],
+    work32: &mut [f32],
+) -> AssignmentCounts
+    requires sizes { ⌜ TrackRoom held (boxesIn (now objects)) last (length (now floats)) (length (now counters)) (length (now work64)) (length (now work32)) ⌝ }
+    requires low { ⌜ SinceLow held (tracks (now floats) (now counters) held) ⌝ }
+    requires lent { ⌜ Lent held (boxesIn (now objects)) (length (now corners)) (length (now scores)) (length (now trks)) (length (now confs)) ⌝ }
+    ensures { λ r. ⌜ Tracked (settings .«iou_threshold») (steps settings frame last (now (objects .entry)) (tracks (now (floats .entry)) (now (counters .entry)) held)) (boxesIn (now (objects .entry))) last held
+        (now (floats .entry)) (now (counters .entry)) (now (work64 .entry)) (now (work32 .entry)) r (now (floats .exit)) (now (counters .exit)) (now (work64 .exit)) (now (work32 .exit)) ⌝ }
+{
+    gather(
+        floats,
+        counters,
+        held,
+        objects,
+        corners,
+        scores,
+        trks,
+        confs,
+    );
+    boost(
+        settings,
+        frame,
+        floats,
+        counters,
+        held,
+        corners,
+        trks,
+        confs,
+        work32,
+        scores,
+    );
+    let kept = retain(settings.det_thresh, objects, scores, corners);
+    let end = kept * 4;
+    settle(
+        settings,
+        last,
+        held,
+        floats,
+        counters,
+        &corners[..end],
+        trks,
+        confs,
+        &scores[..kept],
+        work64,
+        work32,
+    )
+}
+
+// Steps 1 to 7 of predicted tracks.
+fn track(
+    settings: Settings,
+    frame: u64,
+    last: u64,
+    held: usize,
+    floats: &mut [f32],
+    counters: &mut [u64],
+    objects: &[f32],
+    work64: &mut [f64],
+    work32: &mut [f32],
+) -> AssignmentCounts
+    requires sizes { ⌜ TrackRoom held (boxesIn (now objects)) last (length (now floats)) (length (now counters)) (length (now work64)) (length (now work32)) ⌝ }
+    requires low { ⌜ SinceLow held (tracks (now floats) (now counters) held) ⌝ }
+    ensures { λ r. ⌜ Tracked (settings .«iou_threshold») (steps settings frame last (now (objects .entry)) (tracks (now (floats .entry)) (now (counters .entry)) held)) (boxesIn (now (objects .entry))) last held
+        (now (floats .entry)) (now (counters .entry)) (now (work64 .entry)) (now (work32 .entry)) r (now (floats .exit)) (now (counters .exit)) (now (work64 .exit)) (now (work32 .exit)) ⌝ }
+{
+    let n = objects.len() / BOX_VALUES;
+    let mut corners = [0.0f32; 1020];
+    let mut scores = [0.0f32; 255];
+    let mut trks = [0.0f32; 1020];
+    let mut confs = [0.0f32; 255];
+    let of_boxes = n * 4;
+    let of_tracks = held * 4;
+    track_with(
+        settings,
+        frame,
+        last,
+        held,
+        floats,
+        counters,
+        objects,
+        &mut corners[..of_boxes],
+        &mut scores[..n],
+        &mut trks[..of_tracks],
+        &mut confs[..held],
+        work64,
+        work32,
+    )
+}
+
+fn refused(verdict: Verdict) -> Advanced
+    ensures { λ r. ⌜ r ≡ refusedAdvance verdict ⌝ }
+{
+    Advanced {
+        verdict,
+        started: 0,
+        turns: 0,
+        scans: 0,
+    }
+}
+
+// The tracks of the lent table predicted, corrected by their boxes, and followed by those started. `room` is the length of the output that the caller has.
+pub fn advance(
+    settings: Settings,
+    state: State,
+    floats: &mut [f32],
+    counters: &mut [u64],
+    boxes: &[f32],
+    room: usize,
+    work64: &mut [f64],
+    work32: &mut [f32],
+) -> Advanced
+    ensures { λ r. ⌜ AdvanceEnds settings state (now (floats .entry)) (now (counters .entry)) (now (boxes .entry)) room (now (work64 .entry)) (now (work32 .entry)) r (now (floats .exit)) (now (counters .exit)) (now (work64 .exit)) (now (work32 .exit)) ⌝ }
+{
+    let verdict = boost_tracker_table::frame_verdict(
+        settings,
+        state,
+        floats,
+        counters,
+        boxes,
+        room,
+        work64.len(),
+        work32.len(),
+    );
+    let Verdict::Accepted = verdict else {
+        return refused(verdict);
+    };
+    let held = state.count;
+    let last = state.last;
+    let frame = state.frames + 1;
+    boost_tracker_table::predict_all(floats, counters, held);
+    let counts = track(
+        settings,
+        frame,
+        last,
+        held,
+        floats,
+        counters,
+        boxes,
+        work64,
+        work32,
+    );
+    Advanced {
+        verdict,
+        started: counts.detections,
+        turns: counts.turns,
+        scans: counts.scans,
+    }
+}

@@ -1,0 +1,62 @@
+// The tracks that a frame puts out: boost_tracker.rs, lines 363-383, as records in table order.
+use crate::place::track_at;
+use crate::record::record_of;
+use crate::table::placed;
+use crate::table::smaller;
+use records::TRACK_BYTES;
+use records::write_track;
+use strack::strack::KalmanBoxTracker;
+ghost use mathlib.Core.Path.{_≡_};
+ghost use mathlib.Core.Bool.{cond};
+ghost use Prim.Native.Nat.{_+_, _*_, _/_, _<_, min};
+ghost use lib.ListN.{length};
+ghost use Rattle.laws.specs.Splice.{splice};
+ghost use Rattle.records.specs.TrackRecord.{trackBytes};
+ghost use Rattle.boost_tracker_table.specs.Table.{tracks};
+ghost use Rattle.boost_tracker_table.specs.Record.{recordBytes};
+ghost use Rattle.boost_tracker_table.specs.Emission.{emits, Emitted};
+
+// `hits` is the Rust's min_hits, `frame` its frame_count.
+fn emits(t: KalmanBoxTracker, frame: u32, hits: u64) -> bool
+    ensures { λ r. ⌜ r ≡ emits frame hits t ⌝ }
+{
+    (t.since < 1) & ((t.streak >= hits) | (frame as u64 <= hits))
+}
+
+// Writes the track's record at place w, if it is put out; w after that.
+fn emit_one(t: KalmanBoxTracker, w: usize, frame: u32, hits: u64, out: &mut [u8]) -> usize
+    requires { ⌜ w < length (now out) / trackBytes ⌝ }
+    ensures count { λ r. ⌜ r ≡ cond (emits frame hits t) (w + 1) w ⌝ }
+    ensures bytes { λ _. ⌜ now (out .exit) ≡ cond (emits frame hits t) (splice (now (out .entry)) (w * trackBytes) (recordBytes frame t)) (now (out .entry)) ⌝ }
+{
+    if emits(t, frame, hits) {
+        write_track(record_of(frame, t), w, out);
+        return w + 1;
+    }
+    w
+}
+
+// The records of the held tracks that are put out. How many there are. Looks at as many tracks as `out` has room for.
+pub fn emit(
+    floats: &[f32],
+    counters: &[u64],
+    held: usize,
+    frame: u32,
+    hits: u64,
+    out: &mut [u8],
+) -> usize
+    ensures { λ r. ⌜ Emitted (tracks (now (floats .entry)) (now (counters .entry)) (min held (length (now (out .entry)) / trackBytes))) frame hits (now (out .entry)) (now (out .exit)) r ⌝ }
+{
+    let n = placed(
+        floats.len(),
+        counters.len(),
+        smaller(held, out.len() / TRACK_BYTES),
+    );
+    let mut w = 0;
+    let mut i = 0;
+    while i < n {
+        w = emit_one(track_at(floats, counters, i), w, frame, hits, out);
+        i += 1;
+    }
+    w
+}

@@ -1,0 +1,22 @@
+// What the Rust's update emits of a track, as a track record: boost_tracker.rs, lines 365-382.
+use records::TrackRecord;
+use strack::rect::Rect;
+use strack::strack::KalmanBoxTracker;
+ghost use mathlib.Core.Path.{_≡_};
+ghost use Rattle.boost_tracker_table.specs.Record.{recordOf};
+
+pub fn record_of(frame: u32, t: KalmanBoxTracker) -> TrackRecord
+    ensures { λ r. ⌜ r ≡ recordOf frame t ⌝ }
+{
+    let state = t.get_state();
+    let rect = Rect::from_xyxy(state.x1, state.y1, state.x2, state.y2);
+    TrackRecord {
+        frame,
+        id: t.id,
+        left: rect.left,
+        top: rect.top,
+        width: rect.width,
+        height: rect.height,
+        confidence: t.get_confidence(0.9),
+    }
+}

@@ -1,0 +1,177 @@
+// The operations on the lent table: load, store, predict, correct, append, retire, and zero what lies beyond. Each looks only at the places that the lent slices have.
+use crate::place::PLACE_COUNTERS;
+use crate::place::PLACE_FLOATS;
+use crate::place::put_track;
+use crate::place::track_at;
+use strack::kalman_filter::KalmanFilter;
+use strack::kalman_filter::Pair;
+use strack::rect::Xyxy;
+use strack::strack::KalmanBoxTracker;
+use strack::strack::TrackCorrection;
+ghost use mathlib.Core.Path.{_≡_};
+ghost use mathlib.Core.List.{map};
+ghost use Prim.Native.Nat.{_+_, _*_, _≤_, min};
+ghost use lib.ListN.{length, getD, set};
+ghost use Rattle.strack.specs.Strack.{predict as predictTrack, update as updateTrack};
+ghost use Rattle.boost_tracker_table.specs.Table as Table;
+ghost use Rattle.boost_tracker_table.specs.Table.{placeFloats, placeCounters, tracks, blankPair, pushed, Laying, Retired, Emptied};
+ghost use Rattle.boost_tracker_table.specs.Private.{Kept};
+
+pub(crate) fn smaller(a: usize, b: usize) -> usize
+    ensures { λ r. ⌜ r ≡ min a b ⌝ }
+{
+    if a <= b { a } else { b }
+}
+
+// How many tracks a table of these lengths can hold.
+pub fn capacity(floats: usize, counters: usize) -> usize
+    ensures { λ r. ⌜ r ≡ Table.capacity floats counters ⌝ }
+{
+    smaller(
+        smaller(floats / PLACE_FLOATS, counters / PLACE_COUNTERS),
+        255,
+    )
+}
+
+// How many of the held tracks have a place.
+pub(crate) fn placed(floats: usize, counters: usize, held: usize) -> usize
+    ensures { λ r. ⌜ r ≡ Table.placed floats counters held ⌝ }
+{
+    smaller(held, capacity(floats, counters))
+}
+
+// ---- one track
+
+fn blank_pair() -> Pair
+    ensures { λ r. ⌜ r ≡ blankPair ⌝ }
+{
+    Pair {
+        p: 0.0,
+        v: 0.0,
+        a: 0.0,
+        b: 0.0,
+        c: 0.0,
+        d: 0.0,
+    }
+}
+
+// What a place of zeros holds.
+fn blank() -> KalmanBoxTracker
+    ensures { λ r. ⌜ r ≡ Table.blank ⌝ }
+{
+    let kf = KalmanFilter {
+        x: blank_pair(),
+        y: blank_pair(),
+        h: blank_pair(),
+        r: blank_pair(),
+    };
+    KalmanBoxTracker {
+        kf,
+        id: 0,
+        since: 0,
+        streak: 0,
+        age: 0,
+    }
+}
+
+// Track i of those held; past them a blank one.
+pub fn load(floats: &[f32], counters: &[u64], held: usize, i: usize) -> KalmanBoxTracker
+    ensures { λ r. ⌜ r ≡ getD (tracks (now (floats .entry)) (now (counters .entry)) held) i Table.blank ⌝ }
+{
+    if i < placed(floats.len(), counters.len(), held) {
+        return track_at(floats, counters, i);
+    }
+    blank()
+}
+
+// Stores over track i of those held; past them nothing.
+pub fn store(floats: &mut [f32], counters: &mut [u64], held: usize, i: usize, t: KalmanBoxTracker)
+    ensures { λ _. ⌜ Laying (now (floats .entry)) (now (counters .entry)) (now (floats .exit)) (now (counters .exit)) (set (tracks (now (floats .entry)) (now (counters .entry)) held) i t) ⌝ }
+{
+    if i < placed(floats.len(), counters.len(), held) {
+        put_track(floats, counters, i, t);
+    }
+}
+
+// The track that a correction hands back.
+fn corrected(t: KalmanBoxTracker, bbox: Xyxy) -> KalmanBoxTracker
+    ensures { λ r. ⌜ r ≡ updateTrack t bbox .1 ⌝ }
+{
+    match t.correct(bbox) {
+        TrackCorrection::Corrected(u) => u,
+        TrackCorrection::Refused(u) => u,
+    }
+}
+
+// Corrects track i of those held by a box.
+pub fn correct(floats: &mut [f32], counters: &mut [u64], held: usize, i: usize, bbox: Xyxy)
+    ensures { λ _. ⌜ Laying (now (floats .entry)) (now (counters .entry)) (now (floats .exit)) (now (counters .exit)) (Table.corrected (tracks (now (floats .entry)) (now (counters .entry)) held) i bbox) ⌝ }
+{
+    let t = load(floats, counters, held, i);
+    store(floats, counters, held, i, corrected(t, bbox));
+}
+
+// Stores a track behind those held, where there is a place.
+pub fn append(floats: &mut [f32], counters: &mut [u64], held: usize, t: KalmanBoxTracker)
+    ensures { λ _. ⌜ Laying (now (floats .entry)) (now (counters .entry)) (now (floats .exit)) (now (counters .exit)) (pushed (Table.capacity (length (now (floats .entry))) (length (now (counters .entry)))) (tracks (now (floats .entry)) (now (counters .entry)) held) t) ⌝ }
+{
+    if held < capacity(floats.len(), counters.len()) {
+        put_track(floats, counters, held, t);
+    }
+}
+
+// ---- every track
+
+// Predicts each of the held tracks in its place.
+pub fn predict_all(floats: &mut [f32], counters: &mut [u64], held: usize)
+    ensures { λ _. ⌜ Laying (now (floats .entry)) (now (counters .entry)) (now (floats .exit)) (now (counters .exit)) (map predictTrack (tracks (now (floats .entry)) (now (counters .entry)) held)) ⌝ }
+{
+    let n = placed(floats.len(), counters.len(), held);
+    let mut i = 0;
+    while i < n {
+        let t = track_at(floats, counters, i);
+        put_track(floats, counters, i, t.predict());
+        i += 1;
+    }
+}
+
+// Takes the track at i over to place w, if it is young enough; w after that.
+fn keep_one(f: &mut [f32], c: &mut [u64], i: usize, w: usize, oldest: u64) -> usize
+    requires { ⌜ (w ≤ i) × ((i * placeFloats + placeFloats ≤ length (now f)) × (i * placeCounters + placeCounters ≤ length (now c))) ⌝ }
+    ensures { λ r. ⌜ Kept oldest i w (now (f .entry)) (now (c .entry)) (now (f .exit)) (now (c .exit)) r ⌝ }
+{
+    let t = track_at(f, c, i);
+    if t.since <= oldest {
+        put_track(f, c, w, t);
+        return w + 1;
+    }
+    w
+}
+
+// Keeps the held tracks whose time since update is at most `oldest`, in order: the Rust's `retain`. How many there are.
+pub fn retire(floats: &mut [f32], counters: &mut [u64], held: usize, oldest: u64) -> usize
+    ensures { λ r. ⌜ Retired (now (floats .entry)) (now (counters .entry)) held oldest (now (floats .exit)) (now (counters .exit)) r ⌝ }
+{
+    let n = placed(floats.len(), counters.len(), held);
+    let mut w = 0;
+    let mut i = 0;
+    while i < n {
+        w = keep_one(floats, counters, i, w, oldest);
+        i += 1;
+    }
+    w
+}
+
+// ---- places beyond the held tracks
+
+// Zeros every place beyond the held tracks; cells past the capacity are not written.
+pub fn clear_beyond(floats: &mut [f32], counters: &mut [u64], held: usize)
+    ensures { λ _. ⌜ Emptied (now (floats .entry)) (now (counters .entry)) (tracks (now (floats .entry)) (now (counters .entry)) held) (now (floats .exit)) (now (counters .exit)) ⌝ }
+{
+    let places = capacity(floats.len(), counters.len());
+    let mut i = smaller(held, places);
+    while i < places {
+        put_track(floats, counters, i, blank());
+        i += 1;
+    }
+}

@@ -1,5 +1,0 @@
--- Laws that the proofs of several functions cite.
-pub mod Verdicts
-pub mod Softmax
-pub mod CostLaws
-pub mod ShapeLaws

@@ -1,8 +1,0 @@
-// Steps 1 to 7 of a frame, over the lent table. One file for each part: what is gathered, the boosts, the pairs and what follows of them, and the steps in a row.
-mod boost;
-mod gather;
-mod settle;
-mod track;
-
-pub use track::Advanced;
-pub use track::advance;

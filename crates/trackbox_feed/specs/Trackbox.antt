@@ -1,0 +1,79 @@
+-- The program trackbox. Document 01, "Records and limits": it "reads box records on standard input, lends for 64 tracks and 64 boxes, uses `det_thresh` 0.6, `iou_threshold` 0.3, `max_age` 30,
+-- `min_hits` 3 and otherwise `BoostTracker::new`'s settings". What it does with its records is Stream's; here is what a frame gives, by the tracker's definition.
+use mathlib.Core.Path.{_≡_, refl}
+use mathlib.Core.Bool.{false}
+use mathlib.Core.List.{List, map}
+use Prim.Native.Nat.{ℕ}
+use lib.ListN.{replicate}
+use lib.Ieee.{Float, binary32, ofBits, round}
+use Rattle.floats.specs.Single.{zero}
+use Rattle.records.specs.declared.box_record.BoxRecord.{BoxRecord}
+use Rattle.records.specs.declared.track_record.TrackRecord.{TrackRecord}
+use Rattle.boost_tracker_table.specs.declared.refusal.Verdict.{Verdict}
+use Rattle.boost_tracker_table.specs.declared.refusal.Verdict.the-variants.{Accepted, Refused}
+use Rattle.boost_tracker_table.specs.declared.settings.Settings.{Settings}
+use Rattle.boost_tracker_table.specs.declared.sound.State.{State}
+use Rattle.boost_tracker_table.specs.Settings.{new}
+use Rattle.boost_tracker_table.specs.Table.{tracks}
+use Rattle.boost_tracker_table.specs.Record.{recordOf}
+use Rattle.boost_tracker_table.specs.Verdict.{number, verdict}
+use Rattle.boost_tracker_definition.specs.Update.{Stages, update, stateAfter}
+use Rattle.boost_tracker.specs.Answers.{floatsThen, countersThen}
+use Rattle.trackbox_stream.specs.Boxes.{frameFloats}
+use Rattle.trackbox_stream.specs.Stream.{Frame, refused, accepted}
+use Rattle.trackbox_stream.specs.Stream as stream
+
+-- ---- the settings, by their bits as the code has them, and what they are: the f32 nearest to each
+
+abbrev pub detThresh : Float
+detThresh = ofBits binary32 0x3f19_999a
+
+abbrev pub iouThreshold : Float
+iouThreshold = ofBits binary32 0x3e99_999a
+
+pub constants : (detThresh ≡ round binary32 false 6 10) × (iouThreshold ≡ round binary32 false 3 10)
+unfolding ofBits round
+constants = (refl, refl)
+
+abbrev pub settings : Settings
+settings = new detThresh iouThreshold 30 3
+
+-- ---- a frame
+
+-- the tracker between two frames: the lent table, and what stands beside it
+pub record Tracker : Type 0 where
+  pub state : State
+  pub floats : List Float
+  pub counters : List ℕ
+
+abbrev pub trackerWith : State → List Float → List ℕ → Tracker
+trackerWith state floats counters = record { state = state; floats = floats; counters = counters }
+
+abbrev pub stages : Tracker → List Float → Stages
+stages t objects = update settings (t .state) objects (tracks (t .floats) (t .counters) (t .state .count))
+
+-- the records that a frame puts out
+abbrev pub recordsOf : Stages → List TrackRecord
+recordsOf g = map (recordOf (g .frameCount)) (g .output)
+
+abbrev pub frameThen : Verdict → Tracker → Stages → Frame Tracker
+frameThen Accepted t g = accepted (trackerWith (stateAfter g) (floatsThen Accepted g (t .floats) (t .counters)) (countersThen Accepted g (t .floats) (t .counters))) (recordsOf g)
+frameThen (Refused why) t g = refused (number why)
+
+-- of so many bytes lent for the output, and so many f64 and f32 for work
+unfoldable pub frame : ℕ → ℕ → ℕ → Tracker → List Float → Frame Tracker
+frame out work64 work32 t objects = frameThen (verdict settings (t .state) (t .floats) (t .counters) objects out work64 work32) t (stages t objects)
+
+-- ---- the program
+
+-- 64 places of 24 floats and 4 counters, all zero
+abbrev pub begin : Tracker
+begin = trackerWith (record { count = 0; last = 0; frames = 0 }) (replicate 1536 zero) (replicate 256 0)
+
+-- 64 records of 32 bytes, 64 × 64 f64 and 4 × 64 × 64 f32
+abbrev pub updated : Tracker → List BoxRecord → Frame Tracker
+updated t rs = frame 2048 4096 16384 t (frameFloats rs)
+
+-- the bytes that are printed for the bytes that are read
+unfoldable pub trackbox : List ℕ → List ℕ
+trackbox bytes = stream.trackbox updated begin bytes

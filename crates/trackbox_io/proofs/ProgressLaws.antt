@@ -1,0 +1,107 @@
+-- Each return of the functions on `Progress` is the definition's case. Assumes nothing.
+use mathlib.Core.Path.{_≡_, refl, sym, ap, _∙_}
+use mathlib.Core.Bool.{Bool, true, false, not, true≢false}
+use mathlib.Core.List.{List}
+use Prim.Native.Nat.{ℕ, _+_, _-_, _*_, _/_, _%_, _≤_, _<_, min, max}
+use native.Mathlib.Nat.{mul-le-mul}
+use native.Mathlib.Omega.{arith}
+use lib.Dec.{leb, ltb}
+use lib.ListN.{length}
+use borrow.Author.Tests.{lt-ltb, le-ltb, le-leb, lt-leb}
+use Rattle.records.specs.declared.box_record.BoxRecord.{BoxRecord}
+use Rattle.records.specs.declared.box_record.BoxAnswer.{BoxAnswer}
+use Rattle.records.specs.declared.box_record.BoxAnswer.the-variants.{Read, Short}
+use Rattle.records.specs.Field.{part}
+use Rattle.records.specs.BoxRecord.{boxOf, boxAt}
+use Rattle.trackbox_feed.specs.declared.feed.Feed.{Feed}
+use Rattle.trackbox_feed.specs.declared.feed.Item.{Item}
+use Rattle.trackbox_feed.specs.declared.feed.Item.the-variants.{Record, End}
+use Rattle.trackbox_feed.specs.declared.feed.Fed.{Fed}
+use Rattle.trackbox_feed.specs.declared.feed.Fed.the-variants as fed
+use Rattle.trackbox_io.specs.declared.calls.Input.{Input}
+use Rattle.trackbox_io.specs.declared.calls.Input.the-variants.{Bytes, Failed}
+use Rattle.trackbox_io.specs.declared.progress.Progress.{Progress}
+use Rattle.trackbox_io.specs.Turn.{stopped, cleared, emptied, refilled, known, later, answered, itemAt, Needed}
+
+-- ---- what is handed on
+
+pub end-is : (next got : ℕ) (input : List ℕ) → got / 24 ≤ next → End (got % 24) ≡ itemAt next got input
+unfolding itemAt
+end-is next got input h = rw (le-leb (got / 24) next h)
+
+box-is : (next got : ℕ) (input : List ℕ) → next < got / 24 → got ≤ length input → boxAt input next ≡ Read (boxOf (part (next * 24) 24 input))
+unfolding boxAt
+box-is next got input h k = rw (lt-ltb next (length input / 24) (omega (arith, h, k)))
+
+abbrev of-answer : BoxAnswer → Item
+of-answer (Read r) = Record r
+of-answer Short = End 0
+
+abbrev is-short : BoxAnswer → ℕ
+is-short (Read r) = 0
+is-short Short = 1
+
+pub record-is : (next got : ℕ) (input : List ℕ) {a : BoxAnswer} {r : BoxRecord} → next < got / 24 → got ≤ length input → a ≡ boxAt input next → a ≡ Read r → Record r ≡ itemAt next got input
+unfolding itemAt
+record-is next got input {r = r} h k e q =
+    let z : Record r ≡ Record (boxOf (part (next * 24) 24 input)) = ap of-answer (sym q ∙ e ∙ box-is next got input h k) in
+    rw (lt-leb (got / 24) next h) z
+
+pub never-short : (next got : ℕ) (input : List ℕ) {a : BoxAnswer} → next < got / 24 → got ≤ length input → a ≡ boxAt input next → a ≡ Short → ⊥
+never-short next got input h k e q =
+    let z : _≡_ {A = ℕ} 0 1 = ap is-short (sym (box-is next got input h k) ∙ sym e ∙ q) in
+    omega (arith, z)
+
+-- ---- the next record
+
+pub later-one : (next got : ℕ) → next < got / 24 → next + 1 ≡ later next got
+later-one next got h = rw (lt-ltb next (got / 24) h)
+
+pub later-same : (next got : ℕ) → got / 24 ≤ next → next ≡ later next got
+later-same next got h = rw (le-ltb next (got / 24) h)
+
+-- ---- what a write and a read leave
+
+pub not-written : (p : Progress) (written : Bool) {r : Progress} → not written ≡ true → r ≡ stopped p → r ≡ emptied p written
+not-written p true e q = absurd (true≢false (sym e))
+not-written p false e q = q
+
+pub was-written : (p : Progress) (written : Bool) → not written ≡ false → cleared p ≡ emptied p written
+was-written p true e = refl
+was-written p false e = absurd (true≢false e)
+
+pub was-read : (p : Progress) (size : ℕ) {input : Input} {n left : ℕ} → input ≡ Bytes n → left ≡ p .left - n
+    → record { feed = p .feed; left = left; more = leb size n; got = n; next = 0; used = p .used; going = p .going; failed = p .failed } ≡ refilled p size input
+was-read p size e q = rw (e, q)
+
+pub not-read : (p : Progress) (size : ℕ) {input : Input} {r : Progress} → input ≡ Failed → r ≡ stopped p → r ≡ refilled p size input
+not-read p size e q = rw e q
+
+-- ---- what an answer leaves
+
+module _ (p : Progress) (size : ℕ) {a : Fed} {r : Progress} where
+  pub taken-so : {n next used : ℕ} {then : Feed} → a ≡ fed.Taken then n → next ≡ later (p .next) (p .got) → used ≡ min (p .used + n) size → r ≡ known p then next used true → r ≡ answered p size a
+  taken-so {used = used} {then = then} e l b q = rw e (q ∙ ap (λ (k : ℕ). known p then k used true) l ∙ ap (λ (k : ℕ). known p then (later (p .next) (p .got)) k true) b)
+
+  pub again-so : {n used : ℕ} {then : Feed} → a ≡ fed.Again then n → used ≡ min (p .used + n) size → r ≡ known p then (p .next) used true → r ≡ answered p size a
+  again-so {then = then} e b q = rw e (q ∙ ap (λ (k : ℕ). known p then (p .next) k true) b)
+
+  pub ended-so : {n used : ℕ} → a ≡ fed.Ended n → used ≡ min (p .used + n) size → r ≡ known p (p .feed) (p .next) used false → r ≡ answered p size a
+  ended-so e b q = rw e (q ∙ ap (λ (k : ℕ). known p (p .feed) (p .next) k false) b)
+
+  pub short-so : a ≡ fed.Short → r ≡ stopped p → r ≡ answered p size a
+  short-so e q = rw e q
+
+-- ---- what a frame needs
+
+pub few-cells : {n : ℕ} → n ≤ 64 → n * n ≤ 4096
+few-cells h = mul-le-mul h h
+
+pub needed-all : (held boxes : ℕ) → Needed held boxes 4096
+needed-all held boxes = record { doubles = record { enough = omega arith; bound = omega arith }; singles = record { enough = omega arith; bound = omega arith } }
+
+pub needed-square : (held boxes : ℕ) {n : ℕ} → n ≡ max held boxes → n ≤ 64 → Needed held boxes (n * n)
+needed-square held boxes {n} e h =
+    let low = mul-le-mul h h in
+    let s : n * n ≡ max held boxes * max held boxes = rw e in
+    record { doubles = record { enough = omega (arith, s); bound = omega (arith, low) }; singles = record { enough = omega (arith, s); bound = omega (arith, low) } }

@@ -1,0 +1,86 @@
+-- `turns::run` is safe and ends, and no more is left than there was. The loop's invariant: the arrays keep their lengths, what was read and what waits lies in them, and what was handed to the output and
+-- waits for it is what trackbox prints of the bytes that were read (specs/Printed.antt). The measure is the count of turns that is left. Assumes nothing.
+use mathlib.Core.Path.{refl, sym, subst, _∙_}
+use Prim.Native.Nat.{ℕ}
+use native.Mathlib.Omega.{arith}
+use lib.ListN.{replicate, length-replicate}
+use lib.Ieee.{binary32, binary64, ofBits}
+use Rattle.trackbox_io.specs.declared.progress.Progress.{Progress}
+use Rattle.trackbox_io.specs.Turn.{Arrays, arrays, Sizes}
+use Rattle.trackbox_io.specs.Printed.{start-along}
+use Rattle.trackbox_io.proofs.TurnLaws.{Running, runs-on, turns-left, goes-on, ends-leaves}
+use Rattle.trackbox_io.proofs.turns.run.Statement.{statement}
+use Rattle.trackbox_io.proofs.turns.run.Tie as tie
+
+abbrev Inv-loop : tie.InvT-loop
+Inv-loop bytes input₀ text₀ floats₀ counters₀ boxes₀ out₀ work64₀ work32₀ now₀ turns₀ input text floats counters boxes out work64 work32 now turns =
+    Running now (arrays input text floats counters boxes out work64 work32)
+
+abbrev μ-loop : tie.MeasureT-loop
+μ-loop bytes input₀ text₀ floats₀ counters₀ boxes₀ out₀ work64₀ work32₀ now₀ turns₀ input text floats counters boxes out work64 work32 now turns = turns
+
+abbrev zeros : Arrays
+zeros =
+    arrays (replicate 65520 0) (replicate 65536 0) (replicate 1536 (ofBits binary32 0)) (replicate 256 0) (replicate 320 (ofBits binary32 0)) (replicate 2048 0) (replicate 4096 (ofBits binary64 0)) (replicate 16384 (ofBits binary32 0))
+
+zeros-sized : Sizes zeros
+zeros-sized = record {
+  input = length-replicate {A = ℕ} 65520 0;
+  text = length-replicate {A = ℕ} 65536 0;
+  floats = length-replicate 1536 (ofBits binary32 0);
+  counters = length-replicate {A = ℕ} 256 0;
+  boxes = length-replicate 320 (ofBits binary32 0);
+  output = length-replicate {A = ℕ} 2048 0;
+  doubles = length-replicate 4096 (ofBits binary64 0);
+  singles = length-replicate 16384 (ofBits binary32 0);
+}
+
+loop-holds : tie.Need-loop-holds Inv-loop μ-loop
+loop-holds c =
+    subst (λ (p : Progress). Running p zeros) (sym (c .start .ensures))
+    (record { sizes = zeros-sized; stands = record { used = omega arith; got = omega arith }; along = start-along (c .before .args .bytes) zeros refl (zeros-sized .boxes) })
+
+sub-turns : tie.Need-sub-turns Inv-loop μ-loop
+sub-turns c = omega (arith, turns-left (c .before .before .before .before .before .before .before .before .before .before .before .before .before .before .before .before .before .before .before .loop .turns) (c .before .before .before .before .before .before .before .before .before .before .before .before .before .before .before .before .before .before .before .loop .now .going) (c .before .before .before .before .before .before .before .before .before .before .before .before .before .before .before .before .before .if1 .taken))
+
+loop-less : tie.Need-loop-less Inv-loop μ-loop
+loop-less c = omega (arith, turns-left (c .before .before .before .before .before .before .before .before .before .before .before .before .before .before .before .before .before .before .before .loop .turns) (c .before .before .before .before .before .before .before .before .before .before .before .before .before .before .before .before .before .before .before .loop .now .going) (c .before .before .before .before .before .before .before .before .before .before .before .before .before .before .before .before .before .if1 .taken))
+
+loop-again : tie.Need-loop-again Inv-loop μ-loop
+loop-again c =
+    let turn = c .before .before .before .before .before .before .before .before in
+    let test = turn .before .before .before .before .before .before .before .before .before in
+    let loop = test .before .before .loop in
+    let size = loop .inv .sizes in
+    runs-on _ _ _ _ (record {
+      input = turn .turn .kept .1 .0 ∙ size .input;
+      text = turn .turn .kept .1 .1 .0 ∙ size .text;
+      floats = turn .turn .kept .1 .1 .1 .0 ∙ size .floats;
+      counters = turn .turn .kept .1 .1 .1 .1 .0 ∙ size .counters;
+      boxes = turn .turn .kept .1 .1 .1 .1 .1 .0 ∙ size .boxes;
+      output = turn .turn .kept .1 .1 .1 .1 .1 .1 .0 ∙ size .output;
+      doubles = turn .turn .kept .1 .1 .1 .1 .1 .1 .1 .0 ∙ size .doubles;
+      singles = turn .turn .kept .1 .1 .1 .1 .1 .1 .1 .1 .0 ∙ size .singles;
+    }) (goes-on (loop .turns) (loop .now .going) (test .if1 .taken)) (loop .inv) (turn .turn .ensures)
+
+pub run-spec : {M : Type 1} → statement M
+run-spec =
+    tie.close
+    (tie.spec Inv-loop μ-loop
+    (λ c κs. tt)
+    loop-holds
+    (λ c. sym (c .before .before .before .loop .inv .sizes .input))
+    (λ c. sym (c .before .before .before .before .loop .inv .sizes .text))
+    (λ c. sym (c .before .before .before .before .before .loop .inv .sizes .floats))
+    (λ c. sym (c .before .before .before .before .before .before .loop .inv .sizes .counters))
+    (λ c. sym (c .before .before .before .before .before .before .before .loop .inv .sizes .boxes))
+    (λ c. sym (c .before .before .before .before .before .before .before .before .loop .inv .sizes .output))
+    (λ c. sym (c .before .before .before .before .before .before .before .before .before .loop .inv .sizes .doubles))
+    (λ c. sym (c .before .before .before .before .before .before .before .before .before .before .loop .inv .sizes .singles))
+    (λ c κs. (c .before .before .before .before .before .before .before .before .before .before .loop .inv .stands, c .before .before .before .before .before .before .before .before .before .before .loop .inv .sizes))
+    sub-turns
+    loop-less
+    loop-again
+    (λ c. sym (c .before .before .before .loop .inv .sizes .text))
+    (λ c κs. omega (arith, c .before .before .before .loop .inv .stands .used, c .before .before .before .loop .inv .sizes .text))
+    (λ c. ends-leaves (c .before .before .before .before .loop .now) _ (c .end .result) (c .end .ensures)))

@@ -1,0 +1,171 @@
+-- One turn of the loop: what waits is written out where the text has little room or the input is read on, the buffer is filled once its records are taken, and a record or the end is handed on.
+-- Whether a write failed and what a read brought are C's: each contract names them, and says what follows.
+use mathlib.Core.Path.{_≡_}
+use mathlib.Core.Bool.{Bool, true, false, cond, _&&_, _||_}
+use mathlib.Core.List.{List, _++_}
+use Prim.Native.Nat.{ℕ, _+_, _-_, _*_, _/_, _%_, _≤_, min}
+use lib.Dec.{leb, ltb}
+use lib.ListN.{length, take, drop}
+use lib.Ieee.{Float}
+use Rattle.records.specs.Field.{part}
+use Rattle.records.specs.BoxRecord.{boxOf}
+use Rattle.trackbox_feed.specs.declared.feed.Feed.{Feed}
+use Rattle.trackbox_feed.specs.declared.feed.Item.{Item}
+use Rattle.trackbox_feed.specs.declared.feed.Item.the-variants.{Record, End}
+use Rattle.trackbox_feed.specs.declared.feed.Fed.{Fed}
+use Rattle.trackbox_feed.specs.declared.feed.Fed.the-variants.{Taken, Again, Ended, Short}
+use Rattle.trackbox_feed.specs.Feed.{lentWith, callWith, fed}
+use Rattle.trackbox_feed.specs.Feed as calls
+use Rattle.trackbox_feed.specs.Laws.{Serves, square}
+use Rattle.trackbox_io.specs.declared.calls.Input.{Input}
+use Rattle.trackbox_io.specs.declared.calls.Input.the-variants.{Bytes, Failed}
+use Rattle.trackbox_io.specs.declared.progress.Progress.{Progress}
+use Rattle.trackbox_io.specs.declared.turns.Ran.{Ran}
+use Rattle.trackbox_io.specs.declared.turns.Ran.the-variants as ran
+
+-- ---- what is known between two turns
+
+abbrev pub start : ℕ → Progress
+start bytes = record { feed = calls.start; left = bytes; more = true; got = 0; next = 0; used = 0; going = true; failed = false }
+
+abbrev pub spent : Progress → Bool
+spent p = leb (p .got / 24) (p .next) && p .more
+
+abbrev pub crowded : ℕ → ℕ → Bool
+crowded used size = ltb (size - used) 8192
+
+-- a call failed: nothing is handed on or written any more
+abbrev pub stopped : Progress → Progress
+stopped p = record { feed = p .feed; left = p .left; more = p .more; got = p .got; next = p .next; used = p .used; going = false; failed = true }
+
+abbrev pub cleared : Progress → Progress
+cleared p = record { feed = p .feed; left = p .left; more = p .more; got = p .got; next = p .next; used = 0; going = p .going; failed = p .failed }
+
+-- what waited was written out, or a write failed
+abbrev pub emptied : Progress → Bool → Progress
+emptied p written = cond written (cleared p) (stopped p)
+
+-- a buffer that is not full is the last
+abbrev pub refilled : Progress → ℕ → Input → Progress
+refilled p size (Bytes n) = record { feed = p .feed; left = p .left - n; more = leb size n; got = n; next = 0; used = p .used; going = p .going; failed = p .failed }
+refilled p size Failed = stopped p
+
+abbrev pub known : Progress → Feed → ℕ → ℕ → Bool → Progress
+known p feed next used going = record { feed = feed; left = p .left; more = p .more; got = p .got; next = next; used = used; going = going; failed = false }
+
+abbrev pub later : ℕ → ℕ → ℕ
+later next got = cond (ltb next (got / 24)) (next + 1) next
+
+-- a record is handed on again until it is taken, and then comes the next; the call's text waits behind what waits already
+abbrev pub answered : Progress → ℕ → Fed → Progress
+answered p size (Taken feed n) = known p feed (later (p .next) (p .got)) (min (p .used + n) size) true
+answered p size (Again feed n) = known p feed (p .next) (min (p .used + n) size) true
+answered p size (Ended n) = known p (p .feed) (p .next) (min (p .used + n) size) false
+answered p size Short = stopped p
+
+-- ---- what is handed on
+
+-- record `next` of the first `got` bytes; behind the last whole one the end, with the rest's length
+unfoldable pub itemAt : ℕ → ℕ → List ℕ → Item
+itemAt next got input = cond (leb (got / 24) next) (End (got % 24)) (Record (boxOf (part (next * 24) 24 input)))
+
+-- ---- the arrays
+
+pub record Arrays : Type 0 where
+  pub input : List ℕ
+  pub text : List ℕ
+  pub floats : List Float
+  pub counters : List ℕ
+  pub boxes : List Float
+  pub output : List ℕ
+  pub doubles : List Float
+  pub singles : List Float
+
+abbrev pub arrays : List ℕ → List ℕ → List Float → List ℕ → List Float → List ℕ → List Float → List Float → Arrays
+arrays input text floats counters boxes output doubles singles =
+    record { input = input; text = text; floats = floats; counters = counters; boxes = boxes; output = output; doubles = doubles; singles = singles }
+
+-- as trackbox has them: buffers of 2730 records and of 64 KiB, 64 tracks and 64 boxes
+pub record Sizes (a : Arrays) : Type 0 where
+  pub input : length (a .input) ≡ 65520
+  pub text : length (a .text) ≡ 65536
+  pub floats : length (a .floats) ≡ 1536
+  pub counters : length (a .counters) ≡ 256
+  pub boxes : length (a .boxes) ≡ 320
+  pub output : length (a .output) ≡ 2048
+  pub doubles : length (a .doubles) ≡ 4096
+  pub singles : length (a .singles) ≡ 16384
+
+-- what waits lies in the text, and what was read in the buffer
+pub record Stands (p : Progress) : Type 0 where
+  pub used : p .used ≤ 65536
+  pub got : p .got ≤ 65520
+
+-- ---- the three steps of a turn
+
+pub record Empties (p r : Progress) (size : ℕ) : Type 0 where
+  -- every write succeeded
+  pub written : Bool
+  pub so : r ≡ cond (crowded (p .used) size || spent p) (emptied p written) p
+
+-- what a read into so many bytes may answer
+abbrev pub Within : ℕ → Input → Type 0
+Within size (Bytes n) = n ≤ size
+Within size Failed = Unit {0}
+
+pub record Fills (p r : Progress) (before after : List ℕ) : Type 0 where
+  pub input : Input
+  pub within : Within (length before) input
+  pub so : r ≡ cond (p .going && spent p) (refilled p (length before) input) p
+  -- a buffer whose records are not all taken stays
+  pub same : (p .going && spent p) ≡ false → after ≡ before
+
+-- how many f64 a frame is lent: of f32 it is four times as many
+pub record Needed (held boxes n : ℕ) : Type 0 where
+  pub doubles : Serves (square held boxes) 4096 n
+  pub singles : Serves (4 * square held boxes) 16384 (4 * n)
+
+-- one call of `take`
+pub record Hands (p r : Progress) (a b : Arrays) : Type 0 where
+  pub cells : ℕ
+  pub needed : Needed (p .feed .table .count) (p .feed .opened .boxes) cells
+  pub answer : Fed
+  -- what the call leaves of the work slices and of the text that it was lent
+  pub doubles : List Float
+  pub singles : List Float
+  pub text : List ℕ
+  pub call : callWith answer (lentWith (b .floats) (b .counters) (b .output) doubles singles text) (b .boxes)
+      ≡ fed (p .feed) (itemAt (p .next) (p .got) (a .input))
+      (lentWith (a .floats) (a .counters) (a .output) (take cells (a .doubles)) (take (4 * cells) (a .singles)) (drop (p .used) (a .text))) (a .boxes)
+  -- it stands behind what waits
+  pub behind : b .text ≡ take (p .used) (a .text) ++ text
+  pub so : r ≡ answered p (length (a .text)) answer
+
+-- a call is made where no call of C failed before
+pub record Handed (p r : Progress) (a b : Arrays) : Type 0 where
+  pub goes : p .going ≡ true → Hands p r a b
+  pub stays : p .going ≡ false → (r ≡ p) × (b ≡ a)
+
+-- ---- a turn
+
+abbrev pub withInput : List ℕ → Arrays → Arrays
+withInput input a = arrays input (a .text) (a .floats) (a .counters) (a .boxes) (a .output) (a .doubles) (a .singles)
+
+pub record Turned (p r : Progress) (a b : Arrays) : Type 0 where
+  pub flushed : Progress
+  pub ready : Progress
+  pub empties : Empties p flushed (length (a .text))
+  pub fills : Fills flushed ready (a .input) (b .input)
+  pub hands : Handed ready r (withInput (b .input) a) b
+
+-- ---- a run
+
+-- no more is left than there was
+abbrev pub Leaves : ℕ → Ran → Type 0
+Leaves bytes (ran.Whole left) = left ≤ bytes
+Leaves bytes ran.Failed = Unit {0}
+
+-- that all is written is said only where no call failed
+abbrev pub Ends : Progress → ℕ → Ran → Type 0
+Ends p bytes (ran.Whole left) = (p .failed ≡ false) × (left ≤ bytes)
+Ends p bytes ran.Failed = Unit {0}

@@ -1,0 +1,193 @@
+// Where a run stands, and what it does next.
+use crate::calls::Input;
+use records::BoxAnswer;
+use records::read_box;
+use trackbox_feed::Fed;
+use trackbox_feed::Feed;
+use trackbox_feed::Item;
+ghost use mathlib.Core.Path.{_≡_};
+ghost use Prim.Native.Nat.{_+_, _-_, _≤_, min, max};
+ghost use lib.ListN.{length};
+ghost use Rattle.trackbox_io.specs.Turn as Spec;
+
+// What is known between two turns.
+pub struct Progress {
+    pub feed: Feed,
+    // bytes of the stream that are not read yet
+    pub left: u64,
+    // false once the stream's last bytes are read
+    pub more: bool,
+    // bytes in the buffer
+    pub got: usize,
+    // the buffer's record that is handed on next
+    pub next: usize,
+    // bytes at the front of the text that are not written out yet
+    pub used: usize,
+    // false once nothing follows
+    pub going: bool,
+    // a call failed
+    pub failed: bool,
+}
+
+pub(crate) fn start(bytes: u64) -> Progress
+    ensures { λ r. ⌜ r ≡ Spec.start bytes ⌝ }
+{
+    Progress {
+        feed: trackbox_feed::start(),
+        left: bytes,
+        more: true,
+        got: 0,
+        next: 0,
+        used: 0,
+        going: true,
+        failed: false,
+    }
+}
+
+// The buffer's records are taken, and more may follow.
+pub(crate) fn spent(p: Progress) -> bool
+    ensures { λ r. ⌜ r ≡ Spec.spent p ⌝ }
+{
+    (p.got / 24 <= p.next) & p.more
+}
+
+// Less than 8 KiB are left for the text of a call.
+pub(crate) fn crowded(used: usize, size: usize) -> bool
+    requires { ⌜ used ≤ size ⌝ }
+    ensures { λ r. ⌜ r ≡ Spec.crowded used size ⌝ }
+{
+    size - used < 8192
+}
+
+pub(crate) fn stopped(p: Progress) -> Progress
+    ensures { λ r. ⌜ r ≡ Spec.stopped p ⌝ }
+{
+    let mut now = p;
+    now.going = false;
+    now.failed = true;
+    now
+}
+
+// What waited is written out, or not.
+pub(crate) fn emptied(p: Progress, written: bool) -> Progress
+    ensures { λ r. ⌜ r ≡ Spec.emptied p written ⌝ }
+{
+    if !written {
+        return stopped(p);
+    }
+    let mut now = p;
+    now.used = 0;
+    now
+}
+
+fn less(left: u64, n: usize) -> u64
+    ensures { λ r. ⌜ r ≡ left - n ⌝ }
+{
+    if (n as u64) < left {
+        return left - n as u64;
+    }
+    0
+}
+
+// The buffer of `size` bytes was filled, or the read failed.
+pub(crate) fn refilled(p: Progress, size: usize, input: Input) -> Progress
+    ensures { λ r. ⌜ r ≡ Spec.refilled p size input ⌝ }
+{
+    match input {
+        Input::Bytes(n) => {
+            let mut now = p;
+            now.left = less(p.left, n);
+            now.more = size <= n;
+            now.got = n;
+            now.next = 0;
+            now
+        }
+        Input::Failed => stopped(p),
+    }
+}
+
+// Record `next` of the first `got` bytes; behind the last one the end of the stream.
+pub(crate) fn item(next: usize, got: usize, input: &[u8]) -> Item
+    requires { ⌜ got ≤ length (now input) ⌝ }
+    ensures { λ r. ⌜ r ≡ Spec.itemAt next got (now (input .entry)) ⌝ }
+{
+    let end = Item::End(got % 24);
+    if got / 24 <= next {
+        return end;
+    }
+    let BoxAnswer::Read(r) = read_box(input, next) else {
+        return end;
+    };
+    Item::Record(r)
+}
+
+// Where n bytes behind the first `used` end; no call's text is longer than what it is lent.
+fn behind(used: usize, n: usize, size: usize) -> usize
+    requires { ⌜ used ≤ size ⌝ }
+    ensures { λ r. ⌜ r ≡ min (used + n) size ⌝ }
+{
+    if size - used < n {
+        return size;
+    }
+    used + n
+}
+
+// The record behind this one.
+fn later(next: usize, got: usize) -> usize
+    ensures { λ r. ⌜ r ≡ Spec.later next got ⌝ }
+{
+    if next < got / 24 {
+        return next + 1;
+    }
+    next
+}
+
+fn known(p: Progress, feed: Feed, next: usize, used: usize, going: bool) -> Progress
+    ensures { λ r. ⌜ r ≡ Spec.known p feed next used going ⌝ }
+{
+    Progress {
+        feed,
+        left: p.left,
+        more: p.more,
+        got: p.got,
+        next,
+        used,
+        going,
+        failed: false,
+    }
+}
+
+// A record is handed on until it is taken. `size` is the text's.
+pub(crate) fn answered(p: Progress, size: usize, fed: Fed) -> Progress
+    requires { ⌜ p .used ≤ size ⌝ }
+    ensures { λ r. ⌜ r ≡ Spec.answered p size fed ⌝ }
+{
+    let feed = p.feed;
+    let used = p.used;
+    match fed {
+        Fed::Taken(then, n) => known(p, then, later(p.next, p.got), behind(used, n, size), true),
+        Fed::Again(then, n) => known(p, then, p.next, behind(used, n, size), true),
+        Fed::Ended(n) => known(p, feed, p.next, behind(used, n, size), false),
+        Fed::Short => stopped(p),
+    }
+}
+
+// n × n, n the larger of the held tracks and the open frame's boxes, or all 64 × 64.
+pub(crate) fn needed(held: usize, boxes: usize) -> usize
+    ensures { λ r. ⌜ Spec.Needed held boxes r ⌝ }
+{
+    let n = larger(held, boxes);
+    if 64 < n {
+        return 4096;
+    }
+    n * n
+}
+
+fn larger(a: usize, b: usize) -> usize
+    ensures { λ r. ⌜ r ≡ max a b ⌝ }
+{
+    if a < b {
+        return b;
+    }
+    a
+}

@@ -1,0 +1,21 @@
+-- The boxes of a frame as `update` takes them, five floats each: left, top, width, height, score.
+use mathlib.Core.Bool.{cond}
+use mathlib.Core.List.{List, [], _∷_}
+use Prim.Native.Nat.{ℕ, _*_, _/_}
+use lib.Dec.{ltb}
+use lib.ListN.{length}
+use lib.Ieee.{Float}
+use Rattle.laws.specs.Splice.{splice}
+use Rattle.laws.specs.Laid.{rows}
+use Rattle.records.specs.declared.box_record.BoxRecord.{BoxRecord}
+use Rattle.records.specs.BoxRecord.{boxValues}
+
+abbrev pub boxFloats : BoxRecord → List Float
+boxFloats r = r .left ∷ r .top ∷ r .width ∷ r .height ∷ r .score ∷ []
+
+abbrev pub frameFloats : List BoxRecord → List Float
+frameFloats rs = rows boxFloats rs
+
+-- lent memory with a box stored in place k, where it has more than k whole places
+unfoldable pub heldThen : BoxRecord → ℕ → List Float → List Float
+heldThen r k l = cond (ltb k (length l / boxValues)) (splice l (k * boxValues) (boxFloats r)) l

@@ -1,0 +1,136 @@
+//! A lent table and the published tracker that works its frames.
+
+use crate::verdict::{Call, State, capacity, verdict};
+use jamtrack_rs::boost_tracker::boost_tracker::BoostTracker;
+use jamtrack_rs::boost_tracker::boost_tracker::inside::{self, Settings};
+use jamtrack_rs::boost_tracker::strack::inside::Track;
+use jamtrack_rs::counters;
+use jamtrack_rs::object::Object;
+use jamtrack_rs::rect::Rect;
+use jamtrack_rs::stages::{self, Stages};
+
+/// An emitted track: frame, id, and left, top, width, height, confidence.
+pub struct Record {
+    pub frame: u32,
+    pub id: u64,
+    pub floats: [f32; 5],
+}
+
+pub struct Answer {
+    pub refusal: u32,
+    pub index: usize,
+    pub records: Vec<Record>,
+    pub turns: u64,
+    pub scans: u64,
+    /// No operation of the frame raised IEEE 754's flags of an invalid one, of a division by zero or of an overflow.
+    pub finite: bool,
+    /// Of an accepted frame.
+    pub stages: Stages,
+}
+
+pub struct Table {
+    pub settings: Settings,
+    pub state: State,
+    pub floats: Vec<f32>,
+    pub counters: Vec<u64>,
+    tracker: Option<BoostTracker>,
+}
+
+/// Invalid operation, division by zero and overflow among the sticky flags of x86-64's control word.
+const NOT_FINITE: u32 = 0b1101;
+
+fn flags() -> u32 {
+    let mut word = 0u32;
+    // SAFETY: stores the control word to a variable of its size.
+    unsafe { std::arch::asm!("stmxcsr [{}]", in(reg) &mut word) };
+    word
+}
+
+/// None of the three was raised since they were cleared, at the last frame's start.
+pub fn finite() -> bool {
+    flags() & NOT_FINITE == 0
+}
+
+fn clear_flags() {
+    let word = flags() & !0b111111;
+    // SAFETY: loads the control word with its own value, but for the sticky flags.
+    unsafe { std::arch::asm!("ldmxcsr [{}]", in(reg) &word) };
+}
+
+/// What output and work slices have to have.
+pub fn needed(held: usize, boxes: usize) -> [usize; 3] {
+    let n = held.max(boxes);
+    [32 * (held + boxes), n * n, 4 * n * n]
+}
+
+impl Table {
+    pub fn new(settings: Settings, state: State, floats: Vec<f32>, counters: Vec<u64>) -> Table {
+        Table { settings, state, floats, counters, tracker: None }
+    }
+
+    fn tracks(&self) -> Vec<Track> {
+        let places = self.floats.chunks_exact(24).zip(self.counters.chunks_exact(4));
+        places
+            .take(self.state.count as usize)
+            .map(|(f, c)| Track { floats: f.try_into().unwrap(), counters: c.try_into().unwrap() })
+            .collect()
+    }
+
+    /// The tracker, started from the table at the first accepted frame.
+    fn tracker(&mut self) -> &mut BoostTracker {
+        if self.tracker.is_none() {
+            let mut t = inside::tracker(&self.settings);
+            inside::start(&mut t, &self.tracks(), self.state.last, self.state.frames);
+            self.tracker = Some(t);
+        }
+        self.tracker.as_mut().unwrap()
+    }
+
+    /// The tracker's tracks in the first places, zeros in the others; cells past the places as they were.
+    fn store(&mut self) {
+        let (tracks, last, frames) = inside::table(self.tracker.as_ref().unwrap());
+        let places = capacity(&self.floats, &self.counters);
+        self.floats[..24 * places].fill(0.0);
+        self.counters[..4 * places].fill(0);
+        for (i, t) in tracks.iter().enumerate() {
+            self.floats[24 * i..24 * i + 24].copy_from_slice(&t.floats);
+            self.counters[4 * i..4 * i + 4].copy_from_slice(&t.counters);
+        }
+        self.state = State { count: tracks.len() as u64, last, frames };
+    }
+
+    /// A frame with these boxes, of five floats each, and memory lent in these lengths.
+    pub fn update(&mut self, boxes: &[f32], [out, work64, work32]: [usize; 3]) -> Answer {
+        let call = Call {
+            settings: &self.settings,
+            state: self.state,
+            floats: &self.floats,
+            counters: &self.counters,
+            boxes,
+            out,
+            work64,
+            work32,
+        };
+        let (refusal, index) = verdict(&call);
+        if refusal != 0 {
+            return Answer { refusal, index, records: vec![], turns: 0, scans: 0, finite: true, stages: Stages::default() };
+        }
+        let objects: Vec<Object> =
+            boxes.chunks_exact(5).map(|b| Object::new(Rect::new(b[0], b[1], b[2], b[3]), b[4], None)).collect();
+        let tracker = self.tracker();
+        counters::take();
+        clear_flags();
+        let emitted = tracker.update(&objects).expect("the Rust's update gives no error");
+        let finite = finite();
+        let (counts, stages) = (counters::take(), stages::take());
+        self.store();
+        let frame = self.state.frames as u32;
+        let record = |o: &Object| Record {
+            frame,
+            id: o.get_track_id().expect("an id") as u64,
+            floats: [o.get_x(), o.get_y(), o.get_width(), o.get_height(), o.get_prob()],
+        };
+        let records = emitted.iter().map(record).collect();
+        Answer { refusal: 0, index: 0, records, turns: counts.turns, scans: counts.scans, finite, stages }
+    }
+}

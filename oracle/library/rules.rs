@@ -1,0 +1,113 @@
+//! The scope document's rules for the program trackbox, written from its words over the published tracker; nothing of
+//! the port's.
+
+use crate::frame::{Record, Table};
+use crate::verdict::State;
+use jamtrack_rs::boost_tracker::boost_tracker::inside::Settings;
+
+/// "Lends for 64 tracks and 64 boxes."
+const LENT: usize = 64;
+
+/// `det_thresh` 0.6, `iou_threshold` 0.3, `max_age` 30, `min_hits` 3 and otherwise `BoostTracker::new`'s settings.
+const SETTINGS: Settings = Settings {
+    det_thresh: 0.6,
+    iou_threshold: 0.3,
+    lambdas: [0.5, 0.25, 0.25],
+    dlo_boost_coef: 0.65,
+    max_age: 30,
+    min_hits: 3,
+    flags: 3,
+};
+
+/// A number and the record that it names, counted from 1.
+struct Refused(u32, usize);
+
+struct Trackbox {
+    table: Table,
+    text: String,
+    /// The frame of the last record, 0 at first.
+    frame: u32,
+    /// The boxes of the open frame, and its first record.
+    open: Vec<f32>,
+    first: usize,
+}
+
+impl Trackbox {
+    fn new() -> Trackbox {
+        let state = State { count: 0, last: 0, frames: 0 };
+        let table = Table::new(SETTINGS, state, vec![0.0; LENT * 24], vec![0; LENT * 4]);
+        Trackbox { table, text: String::new(), frame: 0, open: vec![], first: 0 }
+    }
+
+    /// "Frame, id (decimal), left, top, width, height, confidence (8 lower-case hexadecimal digits of the bits)."
+    fn print(&mut self, record: &Record) {
+        let floats: String = record.floats.iter().map(|x| format!(" {:08x}", x.to_bits())).collect();
+        self.text += &format!("{} {}{floats}\n", record.frame, record.id);
+    }
+
+    /// Works a frame; its refusal names `record`.
+    fn work(&mut self, boxes: &[f32], record: usize) -> Result<(), Refused> {
+        let answer = self.table.update(boxes, [2 * LENT * 32, LENT * LENT, 4 * LENT * LENT]);
+        if answer.refusal != 0 {
+            return Err(Refused(answer.refusal, record));
+        }
+        answer.records.iter().for_each(|r| self.print(r));
+        Ok(())
+    }
+
+    /// The open frame, if there is one: its refusal names its first record.
+    fn close(&mut self) -> Result<(), Refused> {
+        if self.open.is_empty() {
+            return Ok(());
+        }
+        let boxes = std::mem::take(&mut self.open);
+        self.work(&boxes, self.first)
+    }
+
+    fn record(&mut self, number: usize, bytes: &[u8]) -> Result<(), Refused> {
+        let word = |k: usize| u32::from_le_bytes(bytes[4 * k..4 * k + 4].try_into().unwrap());
+        let frame = word(0);
+        if frame == 0 || frame < self.frame {
+            return Err(Refused(42, number));
+        }
+        if frame - self.frame > 1000 {
+            return Err(Refused(43, number));
+        }
+        if frame > self.frame {
+            self.close()?;
+            // "Skipped frame numbers are empty frames": a refusal of one names the record after it.
+            for _ in self.frame + 1..frame {
+                self.work(&[], number)?;
+            }
+            (self.frame, self.first) = (frame, number);
+        }
+        if self.open.len() == 5 * LENT {
+            return Err(Refused(44, number));
+        }
+        self.open.extend((1..6).map(|k| f32::from_bits(word(k))));
+        Ok(())
+    }
+
+    fn stream(&mut self, bytes: &[u8]) -> Result<(), Refused> {
+        let records = bytes.chunks_exact(24);
+        let rest = records.remainder();
+        let mut number = 0;
+        for record in records {
+            number += 1;
+            self.record(number, record)?;
+        }
+        if !rest.is_empty() {
+            return Err(Refused(41, number + 1));
+        }
+        self.close()
+    }
+}
+
+/// All that the program prints for these bytes.
+pub fn printed(bytes: &[u8]) -> String {
+    let mut program = Trackbox::new();
+    if let Err(Refused(number, record)) = program.stream(bytes) {
+        program.text += &format!("refused {number} record {record}\n");
+    }
+    program.text
+}

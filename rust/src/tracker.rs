@@ -1,0 +1,360 @@
+//! The tracker, the boxes that it takes and the tracks that it puts out.
+
+use crate::{ffi, Counts, Refusal, Settings};
+use alloc::boxed::Box;
+use alloc::vec;
+use core::fmt;
+use core::iter::FusedIterator;
+use core::slice::ChunksExact;
+
+/// The most tracks of a table, and boxes of a frame.
+const MOST: usize = 255;
+
+/// A box that a detector found, with its score.
+#[derive(Clone, Copy, Debug, PartialEq)]
+#[non_exhaustive]
+pub struct Detection {
+    /// The left edge, at most 65536 in magnitude.
+    pub left: f32,
+    /// The top edge, at most 65536 in magnitude.
+    pub top: f32,
+    /// The width, above 0 and at most 65536.
+    pub width: f32,
+    /// The height, above 0 and at most 65536.
+    pub height: f32,
+    /// The score, 0 to 1.
+    pub score: f32,
+}
+
+impl Detection {
+    /// A box by its left and top edge, its width, its height and its score. Values outside what the fields allow
+    /// are refused by [`Tracker::update`].
+    #[must_use]
+    pub const fn new(left: f32, top: f32, width: f32, height: f32, score: f32) -> Detection {
+        Detection { left, top, width, height, score }
+    }
+}
+
+/// A track that a frame puts out. It is printed as the program `trackbox` prints it: frame and id in decimal,
+/// then the bits of the five floats.
+#[derive(Clone, Copy, Debug, PartialEq)]
+#[non_exhaustive]
+pub struct Track {
+    /// The frame's number, from 1 on.
+    pub frame: u32,
+    /// The track's id, from 1 on.
+    pub id: u64,
+    /// The left edge.
+    pub left: f32,
+    /// The top edge.
+    pub top: f32,
+    /// The width.
+    pub width: f32,
+    /// The height.
+    pub height: f32,
+    /// The confidence, which grows with the track's age and can be above 1: 1.11 just after a match.
+    pub confidence: f32,
+}
+
+impl Track {
+    /// The bytes of a track record.
+    pub const RECORD_LEN: usize = 32;
+
+    /// Of a record of these many bytes.
+    fn read(record: &[u8]) -> Track {
+        let word = |at: usize| [record[at], record[at + 1], record[at + 2], record[at + 3]];
+        let float = |at| f32::from_le_bytes(word(at));
+        let (low, high) = (u32::from_le_bytes(word(4)), u32::from_le_bytes(word(8)));
+        Track {
+            frame: u32::from_le_bytes(word(0)),
+            id: u64::from(high) << 32 | u64::from(low),
+            left: float(12),
+            top: float(16),
+            width: float(20),
+            height: float(24),
+            confidence: float(28),
+        }
+    }
+}
+
+impl fmt::Display for Track {
+    fn fmt(&self, f: &mut fmt::Formatter<'_>) -> fmt::Result {
+        write!(f, "{} {}", self.frame, self.id)?;
+        let floats = [self.left, self.top, self.width, self.height, self.confidence];
+        floats.iter().try_for_each(|float| write!(f, " {:08x}", float.to_bits()))
+    }
+}
+
+/// The tracks that a frame puts out, in the order of the table. They are read as they are asked for.
+#[derive(Clone, Debug)]
+pub struct Tracks<'a> {
+    records: &'a [u8],
+    left: ChunksExact<'a, u8>,
+    counts: Counts,
+}
+
+impl<'a> Tracks<'a> {
+    /// How long the frame's assignment took.
+    #[must_use]
+    pub fn counts(&self) -> Counts {
+        self.counts
+    }
+
+    /// All of the frame's track records as they stand in a file, [`Track::RECORD_LEN`] bytes each, little-endian:
+    /// frame (4 bytes), id (8), then left, top, width, height and confidence (4 each).
+    #[must_use]
+    pub fn records(&self) -> &'a [u8] {
+        self.records
+    }
+}
+
+impl Iterator for Tracks<'_> {
+    type Item = Track;
+
+    fn next(&mut self) -> Option<Track> {
+        self.left.next().map(Track::read)
+    }
+
+    fn size_hint(&self) -> (usize, Option<usize>) {
+        self.left.size_hint()
+    }
+}
+
+impl DoubleEndedIterator for Tracks<'_> {
+    fn next_back(&mut self) -> Option<Track> {
+        self.left.next_back().map(Track::read)
+    }
+}
+
+impl ExactSizeIterator for Tracks<'_> {}
+
+impl FusedIterator for Tracks<'_> {}
+
+/// What the library is lent for a frame.
+#[derive(Clone)]
+struct Memory {
+    floats: Box<[f32]>,
+    counters: Box<[u64]>,
+    boxes: Box<[f32]>,
+    out: Box<[u8]>,
+    work64: Box<[f64]>,
+    work32: Box<[f32]>,
+}
+
+impl Memory {
+    /// For a table of so many places. Held tracks and boxes together are no more than these in a frame that is
+    /// accepted, so the output has a record for each, and neither side of the pairing is larger.
+    fn new(places: usize) -> Memory {
+        Memory {
+            floats: vec![0.0; 24 * places].into_boxed_slice(),
+            counters: vec![0; 4 * places].into_boxed_slice(),
+            boxes: vec![0.0; 5 * (MOST + 1)].into_boxed_slice(),
+            out: vec![0; Track::RECORD_LEN * places].into_boxed_slice(),
+            work64: vec![0.0; places * places].into_boxed_slice(),
+            work32: vec![0.0; 4 * places * places].into_boxed_slice(),
+        }
+    }
+
+    fn places(&self) -> usize {
+        self.counters.len() / 4
+    }
+
+    /// Takes the boxes, and lends what a frame with so many held tracks needs: work memory that is lent is
+    /// cleared, which takes longer than a small frame. Of more than 255 boxes, 256 are enough to be refused.
+    fn lend(&mut self, held: usize, boxes: &[Detection]) -> ffi::Lent<'_> {
+        for (place, b) in self.boxes.chunks_exact_mut(5).zip(boxes) {
+            place.copy_from_slice(&[b.left, b.top, b.width, b.height, b.score]);
+        }
+        let side = held.max(boxes.len()).min(self.places());
+        ffi::Lent {
+            floats: &mut self.floats,
+            counters: &mut self.counters,
+            boxes: &self.boxes[..5 * boxes.len().min(MOST + 1)],
+            out: &mut self.out,
+            work64: &mut self.work64[..side * side],
+            work32: &mut self.work32[..4 * side * side],
+        }
+    }
+}
+
+/// A tracker with its memory: the table of tracks and what a frame's work needs, allocated when it is made.
+///
+/// ```
+/// use bedside::{Detection, Refusal, Settings, Tracker};
+///
+/// let mut tracker = Tracker::new(Settings::new(0.6, 0.3, 30, 3));
+/// let sleeper = |left| Detection::new(left, 20.0, 32.0, 64.0, 0.75);
+///
+/// let first = tracker.update(&[sleeper(10.0)])?.next().expect("a track in the first frames");
+/// let second = tracker.update(&[sleeper(11.0)])?.next().expect("a track in the first frames");
+/// assert_eq!(first.id, second.id);
+///
+/// // a frame that is turned down changes nothing
+/// let refusal = tracker.update(&[sleeper(11.0), sleeper(f32::NAN)]).unwrap_err();
+/// assert_eq!(refusal, Refusal::BadBox { index: 1 });
+/// assert_eq!((tracker.frame_count(), tracker.held_tracks(), tracker.last_id()), (2, 1, 1));
+/// # Ok::<(), Refusal>(())
+/// ```
+#[derive(Clone)]
+pub struct Tracker {
+    settings: Settings,
+    state: ffi::State,
+    memory: Memory,
+}
+
+impl Tracker {
+    /// A tracker with a table of 64 places, as that of the program `trackbox`.
+    #[must_use]
+    pub fn new(settings: Settings) -> Tracker {
+        Tracker::with_capacity(settings, 64)
+    }
+
+    /// A tracker with a table of so many places, at most 255; a larger number counts as 255.
+    ///
+    /// A frame needs a place for each held track and one for each of its boxes: where up to 10 tracks are held
+    /// and a detector finds up to 12 boxes, 22 places are enough for every frame. Work memory grows with the
+    /// square: 64 places take 0.1 MB in all, 255 take 1.6 MB.
+    #[must_use]
+    pub fn with_capacity(settings: Settings, places: usize) -> Tracker {
+        Tracker { settings, state: ffi::State::default(), memory: Memory::new(places.min(MOST)) }
+    }
+
+    /// Works the next frame, with these boxes, and gives the tracks that it puts out. A frame without a box is a
+    /// frame too: call it with an empty slice. It takes 37 KiB of stack, and allocates nothing.
+    ///
+    /// # Errors
+    ///
+    /// Why the frame is turned down. Nothing has changed then: the frame is not counted, and the next call is as
+    /// if this one had not been.
+    pub fn update(&mut self, boxes: &[Detection]) -> Result<Tracks<'_>, Refusal> {
+        let answer = ffi::update(self.settings.0, self.state, self.memory.lend(self.held_tracks(), boxes));
+        if answer.refusal != 0 {
+            return Err(Refusal::of(answer.refusal, answer.index));
+        }
+        self.state = answer.state;
+        let records = &self.memory.out[..Track::RECORD_LEN * answer.emitted as usize];
+        let counts = Counts { turns: answer.turns, scans: answer.scans };
+        Ok(Tracks { records, left: records.chunks_exact(Track::RECORD_LEN), counts })
+    }
+
+    /// The frames worked so far, which is the number of the last one.
+    #[must_use]
+    pub fn frame_count(&self) -> u64 {
+        self.state.frame_count
+    }
+
+    /// The tracks that are held, those without a box in the last frame included.
+    #[must_use]
+    pub fn held_tracks(&self) -> usize {
+        self.state.count as usize
+    }
+
+    /// The last id that was given, which is the number of all tracks so far; 0 before the first.
+    #[must_use]
+    pub fn last_id(&self) -> u64 {
+        self.state.last_id
+    }
+
+    /// The places of the table.
+    #[must_use]
+    pub fn capacity(&self) -> usize {
+        self.memory.places()
+    }
+
+    /// The settings of the next frame.
+    #[must_use]
+    pub fn settings(&self) -> Settings {
+        self.settings
+    }
+
+    /// Changes the settings from the next frame on.
+    pub fn set_settings(&mut self, settings: Settings) {
+        self.settings = settings;
+    }
+
+    /// Starts anew, in the same memory: no track is held, and frames and ids count from 1 again.
+    pub fn reset(&mut self) {
+        self.state = ffi::State::default();
+    }
+}
+
+impl fmt::Debug for Tracker {
+    fn fmt(&self, f: &mut fmt::Formatter<'_>) -> fmt::Result {
+        f.debug_struct("Tracker")
+            .field("settings", &self.settings)
+            .field("frame_count", &self.frame_count())
+            .field("held_tracks", &self.held_tracks())
+            .field("last_id", &self.last_id())
+            .field("capacity", &self.capacity())
+            .finish()
+    }
+}
+
+/// The refusals that no caller of the safe interface meets: each after a change to what a tracker keeps to
+/// itself.
+#[cfg(test)]
+mod tests {
+    use super::{Detection, Tracker};
+    use crate::{ffi, Refusal, Settings};
+    use std::boxed::Box;
+
+    /// Held after one frame: a track at place 0.
+    fn tracker() -> Tracker {
+        let mut tracker = Tracker::new(Settings::new(0.6, 0.3, 30, 3));
+        assert_eq!(tracker.update(&[BOX]).map(|tracks| tracks.len()), Ok(1));
+        tracker
+    }
+
+    const BOX: Detection = Detection::new(10.0, 20.0, 32.0, 64.0, 0.75);
+
+    fn refusal_after(change: impl Fn(&mut Tracker)) -> Option<Refusal> {
+        let mut tracker = tracker();
+        change(&mut tracker);
+        let (state, floats) = (tracker.state, tracker.memory.floats.clone());
+        let refusal = tracker.update(&[BOX]).err();
+        assert_eq!(tracker.state, state);
+        // bits, as a NaN differs from itself
+        assert!(tracker.memory.floats.iter().map(|x| x.to_bits()).eq(floats.iter().map(|x| x.to_bits())));
+        refusal
+    }
+
+    #[test]
+    fn a_table_that_is_not_sound() {
+        assert_eq!(refusal_after(|t| t.state.count = 65), Some(Refusal::TableNotSound));
+        assert_eq!(refusal_after(|t| t.memory.counters[0] = 0), Some(Refusal::TableNotSound));
+    }
+
+    #[test]
+    fn a_track_that_is_not_workable() {
+        assert_eq!(refusal_after(|t| t.memory.floats[0] = f32::NAN), Some(Refusal::TrackNotWorkable));
+        assert_eq!(refusal_after(|t| t.memory.floats[2] = -1e9), Some(Refusal::TrackNotWorkable));
+    }
+
+    #[test]
+    fn the_last_frame() {
+        assert_eq!(refusal_after(|t| t.state.frame_count = 2147483647), Some(Refusal::TooManyFrames));
+        let mut tracker = tracker();
+        tracker.state.frame_count = 2147483646;
+        assert!(tracker.update(&[]).is_ok());
+        assert_eq!(tracker.frame_count(), 2147483647);
+    }
+
+    #[test]
+    fn short_work() {
+        let mut tracker = tracker();
+        for which in [0, 1] {
+            let mut lent = tracker.memory.lend(1, &[BOX]);
+            match which {
+                0 => lent.work64 = &mut [],
+                _ => lent.work32 = &mut [],
+            }
+            let answer = ffi::update(tracker.settings.0, tracker.state, lent);
+            assert_eq!(Refusal::of(answer.refusal, answer.index), Refusal::WorkShort);
+        }
+    }
+
+    #[test]
+    fn a_short_output() {
+        assert_eq!(refusal_after(|t| t.memory.out = Box::new([0; 63])), Some(Refusal::OutputShort));
+    }
+}
