@@ -16,6 +16,14 @@ pub struct Record {
     pub floats: [f32; 5],
 }
 
+impl Record {
+    /// As the output has it.
+    pub fn bytes(&self) -> Vec<u8> {
+        let floats = self.floats.map(|x| x.to_le_bytes()).concat();
+        [&self.frame.to_le_bytes()[..], &self.id.to_le_bytes(), &floats].concat()
+    }
+}
+
 pub struct Answer {
     pub refusal: u32,
     pub index: usize,

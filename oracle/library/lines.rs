@@ -1,7 +1,7 @@
 //! What crates/boost_tracker_vectors has to print of a table and of a frame.
 
 use crate::digest::Digest;
-use crate::frame::{Answer, Record, Table};
+use crate::frame::{Answer, Table};
 use crate::records::{table_words, title};
 use crate::verdict::State;
 
@@ -13,16 +13,13 @@ fn table_digest(table: &Table) -> Digest {
     Digest::new().floats(&table.floats).words(table.counters.iter().copied())
 }
 
-/// Frame, id and floats of each record, then the bytes that are left; a double and a float of 1 or 0 for each cell of
-/// the work slices.
+/// The records and the bytes behind them; a double and a float of 1 or 0 for each cell of the work slices.
 fn lent_digest(answer: &Answer, [out, work64, work32]: [usize; 3]) -> Digest {
-    let record = |sum: Digest, r: &Record| sum.words([r.frame as u64, r.id].into_iter()).floats(&r.floats);
-    let records = answer.records.iter().fold(Digest::new(), record);
+    let mut bytes: Vec<u8> = answer.records.iter().flat_map(|r| r.bytes()).collect();
+    bytes.resize(out, BYTE);
     let work = if answer.refusal == 0 { 0.0 } else { WORK };
-    records
-        .bytes(&vec![BYTE; out - 32 * answer.records.len()])
-        .words(std::iter::repeat_n((work as f64).to_bits(), work64))
-        .floats(&vec![work; work32])
+    let records = Digest::new().bytes(&bytes);
+    records.words(std::iter::repeat_n((work as f64).to_bits(), work64)).floats(&vec![work; work32])
 }
 
 /// A table that is lent: digests of its words and of its cells.

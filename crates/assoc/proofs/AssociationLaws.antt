@@ -2,8 +2,8 @@
 use mathlib.Core.Path.{_≡_, refl, sym, ap, _∙_}
 use mathlib.Core.Bool.{Bool, true, false, not, cond, _&&_, _||_}
 use mathlib.Core.List.{List, [], _++_}
-use Prim.Native.Nat.{ℕ, _+_, _-_, _*_, _≤_, _<_}
-use native.Mathlib.Nat.{mul-le-mul, add-sub-cancel-left}
+use Prim.Native.Nat.{ℕ, _+_, _-_, _*_, _≤_, _<_, max}
+use native.Mathlib.Nat.{mul-le-mul, add-sub-cancel-left, le-max-left, le-max-right}
 use native.Mathlib.Omega.{arith}
 use lib.Dec.{ltb, eqb}
 use lib.Ieee.{Float, nan, binary32, ofBits}
@@ -14,71 +14,74 @@ use borrow.Rule.Slice.PartMut.{putMid}
 use Rattle.laws.specs.Tests.{or-none, false-not-true}
 use Rattle.laws.specs.Tab.{tab, indices}
 use Rattle.laws.specs.Splice.{mid-splice}
-use Rattle.laws.specs.Most.{greater, greater-left, greater-right}
 use Rattle.laws.specs.Grid.{cellAt, grid, grid-at, grid-ext, grid-whole, length-grid, row-ends}
-use Rattle.floats.specs.Single.{one, zero}
-use Rattle.assoc_similarity.specs.declared.cost.AssociateParams.{AssociateParams}
-use Rattle.assoc_similarity.specs.declared.refusal.Verdict.{Verdict}
-use Rattle.assoc_similarity.specs.declared.refusal.Verdict.the-variants.{Accepted}
-use Rattle.assoc_similarity.specs.Refusal.{tooMany}
-use Rattle.assoc_similarity.specs.Sizes.{ofCorners, ofCells, ofDistances, after}
+use Rattle.floats.specs.Single.{one, plusZero}
+use Rattle.assoc.specs.declared.cost.AssociateParams.{AssociateParams}
+use Rattle.refusals.specs.declared.refusal.Refusal.{Refusal}
+use Rattle.refusals.specs.declared.refusal.Verdict.{Verdict}
+use Rattle.refusals.specs.declared.refusal.Verdict.the-variants.{Accepted, Refused}
+use Rattle.refusals.specs.Refusal.{tooMany}
+use Rattle.assoc_similarity.specs.Sizes.{ofCorners, ofCells, ofDistances, Ready, after}
 use Rattle.assoc_similarity.specs.Overlap.{boxAt, iouBatch}
 use Rattle.assoc_similarity.specs.Mahalanobis.{mhDistSimilarity}
-use Rattle.assoc_similarity.specs.Cost.{costMatrix}
-use Rattle.assoc_similarity.proofs.Laws.{passed, few-sides, same-size, cost-ext}
-use Rattle.assoc_matching.specs.declared.assignment.AssignmentAnswer.{AssignmentAnswer}
+use Rattle.assoc.specs.Cost.{costMatrix}
+use Rattle.refusals.proofs.Laws.{passed, few-sides, same-size}
+use Rattle.assoc.proofs.CostLaws.{cost-ext}
+use Rattle.assoc_assignment.specs.declared.assignment.AssignmentCounts.{AssignmentCounts}
 use Rattle.assoc_matching.specs.Matching.{matchDetections}
-use Rattle.assoc_matching.specs.Assignment.{assignment, validated, linearAssignment}
-use Rattle.assoc_matching.specs.Answers.{assignmentShort, assignmentVerdict, AssignmentEnds}
+use Rattle.assoc_assignment.specs.Assignment.{assignment, validated, linearAssignment}
+use Rattle.assoc_matching.specs.Answers.{Call}
+use Rattle.assoc_assignment.specs.Answers.{Room, assignmentShort, assignmentVerdict, assignmentCall}
+use Rattle.assoc_assignment.specs.Answers as Assignments
 use Rattle.assoc.specs.Association.{ious, costs, associate}
 use Rattle.assoc.specs.Answers.{otherSize, associateShort, withinVerdict, associateVerdict, cleared}
-use Rattle.assoc.specs.Private.{Cornered, Likened, Halves, PairedUp}
+use Rattle.assoc.specs.Private.{Cornered, Likened, Halves, withFloats}
 
 -- ---- the verdict
 
 -- what an accepted call has been found to hold: corners that fit, and what linear_assignment accepts
-pub record AssociateReady (boxes tracks detections corners pairs partners unmatchedDetections unmatchedTracks work64 work32 : ℕ) : Type 0 where
+pub record AssociateReady (boxes tracks detections corners : ℕ) (room : Room) (work64 work32 : ℕ) : Type 0 where
   pub cornered : Cornered boxes tracks detections corners work32
-  pub assigned : assignmentVerdict boxes tracks (boxes * tracks) (boxes * tracks) pairs partners unmatchedDetections unmatchedTracks work64 ≡ Accepted
+  pub assigned : assignmentVerdict boxes tracks (boxes * tracks) (boxes * tracks) room work64 ≡ Accepted
 
-module _ (params : AssociateParams) (boxes tracks detections corners trackConfidence detectionConfidence pairs partners unmatchedDetections unmatchedTracks work64 work32 : ℕ) where
+module _ (params : AssociateParams) (boxes tracks detections corners trackConfidence detectionConfidence : ℕ) (room : Room) (work64 work32 : ℕ) where
   -- past the tests of its own, within_verdict leaves the rest to linear_assignment's
-  pub within-rest : tooMany boxes tracks ≡ false → otherSize params boxes tracks detections corners trackConfidence detectionConfidence ≡ false → ltb work32 (4 * (greater boxes tracks * greater boxes tracks)) ≡ false
-      → assignmentVerdict boxes tracks (boxes * tracks) (boxes * tracks) pairs partners unmatchedDetections unmatchedTracks work64
-      ≡ withinVerdict params boxes tracks detections corners trackConfidence detectionConfidence pairs partners unmatchedDetections unmatchedTracks work64 work32
+  pub within-rest : tooMany boxes tracks ≡ false → otherSize params boxes tracks detections corners trackConfidence detectionConfidence ≡ false → ltb work32 (4 * (max boxes tracks * max boxes tracks)) ≡ false
+      → assignmentVerdict boxes tracks (boxes * tracks) (boxes * tracks) room work64
+      ≡ withinVerdict params boxes tracks detections corners trackConfidence detectionConfidence room work64 work32
   unfolding assignmentVerdict withinVerdict
   within-rest e f g = rw (e, f, g, eq-eqb (boxes * tracks) (boxes * tracks) refl)
 
   -- and associate_verdict to within_verdict
   pub associate-rest : (mahalanobis : ℕ) → tooMany boxes tracks ≡ false → (params .«has_mahalanobis» && not (eqb mahalanobis (boxes * tracks))) ≡ false
-      → withinVerdict params boxes tracks detections corners trackConfidence detectionConfidence pairs partners unmatchedDetections unmatchedTracks work64 work32
-      ≡ associateVerdict params boxes tracks detections corners mahalanobis trackConfidence detectionConfidence pairs partners unmatchedDetections unmatchedTracks work64 work32
+      → withinVerdict params boxes tracks detections corners trackConfidence detectionConfidence room work64 work32
+      ≡ associateVerdict params boxes tracks detections corners mahalanobis trackConfidence detectionConfidence room work64 work32
   unfolding withinVerdict associateVerdict
   associate-rest mahalanobis e f = rw (e, f)
 
   -- what an accepted call knows
-  pub within-ready : withinVerdict params boxes tracks detections corners trackConfidence detectionConfidence pairs partners unmatchedDetections unmatchedTracks work64 work32 ≡ Accepted
-      → AssociateReady boxes tracks detections corners pairs partners unmatchedDetections unmatchedTracks work64 work32
+  pub within-ready : withinVerdict params boxes tracks detections corners trackConfidence detectionConfidence room work64 work32 ≡ Accepted
+      → AssociateReady boxes tracks detections corners room work64 work32
   unfolding withinVerdict
   within-ready e =
-      let n : ℕ = greater boxes tracks in
+      let n : ℕ = max boxes tracks in
       let p = passed _ _ _ e in
       let low = few-sides boxes tracks (p .few) in
       let s = or-none (not (eqb detections (boxes * 4))) (not (eqb corners (tracks * 4))) (or-none (not (eqb detections (boxes * 4)) || not (eqb corners (tracks * 4))) _ (p .sized) .0) in
-      let r = or-none (ltb work32 (4 * (n * n))) (assignmentShort boxes tracks pairs partners unmatchedDetections unmatchedTracks work64) (p .enough) in
-      let square : boxes * tracks ≤ n * n = mul-le-mul (greater-left boxes tracks) (greater-right boxes tracks) in
+      let r = or-none (ltb work32 (4 * (n * n))) (assignmentShort boxes tracks room work64) (p .enough) in
+      let square : boxes * tracks ≤ n * n = mul-le-mul (le-max-left boxes tracks) (le-max-right boxes tracks) in
       let floats = ltb-false work32 (4 * (n * n)) (r .0) in
       record {
         cornered = record { few-rows = low .0; few-cols = low .1; detections-fit = same-size detections (boxes * 4) (s .0); corners-fit = same-size corners (tracks * 4) (s .1); room = omega arith };
         assigned = within-rest (p .few) (p .sized) (r .0) ∙ e;
       }
 
-  pub associate-ready : (mahalanobis : ℕ) → associateVerdict params boxes tracks detections corners mahalanobis trackConfidence detectionConfidence pairs partners unmatchedDetections unmatchedTracks work64 work32 ≡ Accepted
-      → AssociateReady boxes tracks detections corners pairs partners unmatchedDetections unmatchedTracks work64 work32 × (params .«has_mahalanobis» ≡ true → mahalanobis ≡ boxes * tracks)
+  pub associate-ready : (mahalanobis : ℕ) → associateVerdict params boxes tracks detections corners mahalanobis trackConfidence detectionConfidence room work64 work32 ≡ Accepted
+      → AssociateReady boxes tracks detections corners room work64 work32 × (params .«has_mahalanobis» ≡ true → mahalanobis ≡ boxes * tracks)
   unfolding associateVerdict
   associate-ready mahalanobis e =
       let p = passed (tooMany boxes tracks) ((params .«has_mahalanobis» && not (eqb mahalanobis (boxes * tracks))) || otherSize params boxes tracks detections corners trackConfidence detectionConfidence)
-      (associateShort boxes tracks pairs partners unmatchedDetections unmatchedTracks work64 work32) e in
+      (associateShort boxes tracks room work64 work32) e in
       let s = or-none (params .«has_mahalanobis» && not (eqb mahalanobis (boxes * tracks))) (otherSize params boxes tracks detections corners trackConfidence detectionConfidence) (p .sized) in
       (within-ready (associate-rest mahalanobis (p .few) (s .0) ∙ e), λ h. same-size mahalanobis (boxes * tracks) (ap (λ (b : Bool). b && not (eqb mahalanobis (boxes * tracks))) (sym h) ∙ s .0))
 
@@ -93,6 +96,10 @@ module _ {n m : ℕ} (few-rows : n ≤ 255) (few-cols : m ≤ 255) where
 
   pub distances-accepted : {distance out : ℕ} → distance ≡ n * m → n * m ≤ out → ofDistances n m distance out ≡ Accepted
   distances-accepted {distance} {out} e r = rw (le-ltb 255 n few-rows, le-ltb 255 m few-cols, eq-eqb distance (n * m) e, le-ltb out (n * m) r)
+
+-- so that none of their refusals is met
+pub not-refused : {v : Verdict} {why : Refusal} → v ≡ Accepted → v ≡ Refused why → ⊥
+not-refused e f = let z : _≡_ {A = ℕ} 0 1 = cc in omega arith
 
 -- what an accepted call leaves in a part that it fills
 stored : (f : ℕ → ℕ → Float) (n m : ℕ) (part : List Float) {r : Verdict} {vs : List Float} → r ≡ Accepted → vs ≡ after r f n m part → vs ≡ grid f n m part
@@ -126,26 +133,31 @@ module _ (params : AssociateParams) (n m : ℕ) (detections corners trackConfide
       → costs params n m detections corners trackConfidence detectionConfidence f ≡ costs params n m detections corners trackConfidence detectionConfidence g
   costs-ext f g h =
       grid-ext (costMatrix params detections corners trackConfidence detectionConfidence f) n m [] (costMatrix params detections corners trackConfidence detectionConfidence g)
-      (λ i j hi hj. cost-ext params (boxAt detections i) (boxAt corners j) (getD detectionConfidence i zero) (getD trackConfidence j zero) (f i j) (g i j) (λ e. h e i j hi hj))
+      (λ i j hi hj. cost-ext params (boxAt detections i) (boxAt corners j) (getD detectionConfidence i plusZero) (getD trackConfidence j plusZero) (f i j) (g i j) (λ e. h e i j hi hj))
 
-  pub halves : (l : List Float) {r₁ r₂ : Verdict} {vs₁ vs₂ : List Float} → Cornered n m (length detections) (length corners) (length l)
-      → r₁ ≡ ofCorners n m (length detections) (length corners) (length (take (n * m) l))
-      → vs₁ ≡ after r₁ (costMatrix params detections corners trackConfidence detectionConfidence (cellAt nan m (take (n * m) l))) n m (take (n * m) l)
-      → r₂ ≡ ofCorners n m (length detections) (length corners) (length (take (n * m + n * m - n * m) (drop (n * m) (vs₁ ++ drop (n * m) l))))
-      → vs₂ ≡ after r₂ (iouBatch detections corners) n m (take (n * m + n * m - n * m) (drop (n * m) (vs₁ ++ drop (n * m) l)))
-      → Halves (n * m) (costs params n m detections corners trackConfidence detectionConfidence (cellAt nan m l)) (ious n m detections corners) (putMid (n * m) (n * m + n * m - n * m) (vs₁ ++ drop (n * m) l) vs₂)
-  halves l {r₁} {r₂} {vs₁} {vs₂} w e₁ f₁ e₂ f₂ =
+  -- the front is long enough for the costs
+  pub costs-ready : (l : List Float) → Cornered n m (length detections) (length corners) (length l) → Ready n m (length detections) (length corners) (length (take (n * m) l))
+  costs-ready l w =
+      let room = w .room in
+      let long : length (take (n * m) l) ≡ n * m = length-take-le (n * m) l (omega arith) in
+      record { detections-fit = w .detections-fit; corners-fit = w .corners-fit; room = omega arith }
+
+  pub halves : (l : List Float) {r : Verdict} {vs₁ vs₂ : List Float} → Cornered n m (length detections) (length corners) (length l)
+      → vs₁ ≡ grid (costMatrix params detections corners trackConfidence detectionConfidence (cellAt nan m (take (n * m) l))) n m (take (n * m) l)
+      → r ≡ ofCorners n m (length detections) (length corners) (length (take (n * m + n * m - n * m) (drop (n * m) (vs₁ ++ drop (n * m) l))))
+      → vs₂ ≡ after r (iouBatch detections corners) n m (take (n * m + n * m - n * m) (drop (n * m) (vs₁ ++ drop (n * m) l)))
+      → (r ≡ Accepted) × Halves (n * m) (costs params n m detections corners trackConfidence detectionConfidence (cellAt nan m l)) (ious n m detections corners) (putMid (n * m) (n * m + n * m - n * m) (vs₁ ++ drop (n * m) l) vs₂)
+  halves l {r} {vs₁} {vs₂} w g₁ e₂ f₂ =
       let cost : ℕ → ℕ → Float = costMatrix params detections corners trackConfidence detectionConfidence (cellAt nan m (take (n * m) l)) in
       let room = w .room in
       let part : List Float = take (n * m) l in
       let long : length part ≡ n * m = length-take-le (n * m) l (omega arith) in
-      let g₁ : vs₁ ≡ grid cost n m part = stored cost n m part (e₁ ∙ corners-accepted (w .few-rows) (w .few-cols) (w .detections-fit) (w .corners-fit) (omega arith)) f₁ in
       let n₁ : length vs₁ ≡ n * m = ap length g₁ ∙ length-grid cost n m part (omega arith) ∙ long in
       let behind : List Float = take (n * m + n * m - n * m) (drop (n * m) (vs₁ ++ drop (n * m) l)) in
       let long₂ : length behind ≡ n * m =
       rw (add-sub-cancel-left (n * m) (n * m), drop-at vs₁ (drop (n * m) l) (n * m) n₁) (length-take-le (n * m) (drop (n * m) l) (rw length-drop (omega arith))) in
-      let g₂ : vs₂ ≡ grid (iouBatch detections corners) n m behind =
-      stored (iouBatch detections corners) n m behind (e₂ ∙ corners-accepted (w .few-rows) (w .few-cols) (w .detections-fit) (w .corners-fit) (omega arith)) f₂ in
+      let ok₂ : r ≡ Accepted = e₂ ∙ corners-accepted (w .few-rows) (w .few-cols) (w .detections-fit) (w .corners-fit) (omega arith) in
+      let g₂ : vs₂ ≡ grid (iouBatch detections corners) n m behind = stored (iouBatch detections corners) n m behind ok₂ f₂ in
       let n₂ : length vs₂ ≡ n * m = ap length g₂ ∙ length-grid (iouBatch detections corners) n m behind (omega arith) ∙ long₂ in
       let costs-are : vs₁ ≡ costs params n m detections corners trackConfidence detectionConfidence (cellAt nan m l) =
       g₁ ∙ grid-whole cost n m part long
@@ -153,24 +165,29 @@ module _ (params : AssociateParams) (n m : ℕ) (detections corners trackConfide
       let ious-are : vs₂ ≡ ious n m detections corners = g₂ ∙ grid-whole (iouBatch detections corners) n m behind long₂ in
       let rest : List Float = drop (n * m + length vs₂) (vs₁ ++ drop (n * m) l) in
       let whole : putMid (n * m) (n * m + n * m - n * m) (vs₁ ++ drop (n * m) l) vs₂ ≡ vs₁ ++ (vs₂ ++ rest) =
-      mid-splice (vs₁ ++ drop (n * m) l) (n * m) (n * m) vs₂ n₂ ∙ ap (λ (t : List Float). t ++ (vs₂ ++ rest)) (take-at vs₁ (drop (n * m) l) (n * m) n₁) in
-      rw whole (record {
-        costs-are = take-at vs₁ (vs₂ ++ rest) (n * m) n₁ ∙ costs-are;
-        ious-are = ap (take (n * m)) (drop-at vs₁ (vs₂ ++ rest) (n * m) n₁) ∙ take-at vs₂ rest (n * m) n₂ ∙ ious-are;
-      })
+      mid-splice (vs₁ ++ drop (n * m) l) (n * m) (n * m) vs₂ n₂ ∙ ap (λ (t : List Float). t ++ (vs₂ ++ rest)) (take-at vs₁ (drop (n * m) l) (n * m) n₁) in (
+        ok₂,
+        rw whole (record {
+          costs-are = take-at vs₁ (vs₂ ++ rest) (n * m) n₁ ∙ costs-are;
+          ious-are = ap (take (n * m)) (drop-at vs₁ (vs₂ ++ rest) (n * m) n₁) ∙ take-at vs₂ rest (n * m) n₂ ∙ ious-are;
+        }),
+      )
 
 -- ---- the assignment by the two matrices
 
 -- the second is lent as a part
-pub half-done : (n m : ℕ) (t : Float) (l : List Float) {pb pt dets trks pb′ pt′ dets′ trks′ : List ℕ} {work work′ : List Float} {r : AssignmentAnswer}
-    → AssignmentEnds n m (take (n * m + n * m - n * m) (drop (n * m) l)) (take (n * m) l) t pb pt dets trks work r pb′ pt′ dets′ trks′ work′
-    → AssignmentEnds n m (take (n * m) (drop (n * m) l)) (take (n * m) l) t pb pt dets trks work r pb′ pt′ dets′ trks′ work′
-half-done n m t l d = rw (add-sub-cancel-left (n * m) (n * m)) at d
+pub half-done : (n m : ℕ) (t : Float) (cells : List Float) (l : Assignments.Lent)
+    → assignmentCall n m (take (n * m + n * m - n * m) (drop (n * m) cells)) (take (n * m) cells) t l ≡ assignmentCall n m (take (n * m) (drop (n * m) cells)) (take (n * m) cells) t l
+half-done n m t cells l = rw (add-sub-cancel-left (n * m) (n * m))
 
-pub paired-up : (n m : ℕ) (t : Float) {k : ℕ} {cost iou l l₀ : List Float} {pb pt dets trks pb′ pt′ dets′ trks′ : List ℕ} {work work′ l′ : List Float} {r : AssignmentAnswer} → Halves k cost iou l
-    → AssignmentEnds n m (take k (drop k l)) (take k l) t pb pt dets trks work r pb′ pt′ dets′ trks′ work′ → l′ ≡ cleared l → length l ≡ length l₀
-    → PairedUp n m iou cost t pb pt dets trks work l₀ r pb′ pt′ dets′ trks′ work′ l′
-paired-up n m t h d e same = record { lists = rw (h .ious-are, h .costs-are) at d; floats = e ∙ ap (tab (λ i. ofBits binary32 0)) same }
+-- with the floats cleared
+pub paired-up : (n m : ℕ) (t : Float) (l : Assignments.Lent) (cells₀ : List Float) {k : ℕ} {cost iou cells cells′ : List Float} {call : Call AssignmentCounts Assignments.Lent} → Halves k cost iou cells
+    → call ≡ assignmentCall n m (take k (drop k cells)) (take k cells) t l → cells′ ≡ cleared cells → length cells ≡ length cells₀
+    → withFloats cells′ call ≡ withFloats (cleared cells₀) (assignmentCall n m iou cost t l)
+paired-up n m t l cells₀ {k} {cost} {iou} {cells} {cells′} {call} h d e same =
+    let q : call ≡ assignmentCall n m iou cost t l = rw (h .ious-are, h .costs-are) at d in
+    let z : cells′ ≡ cleared cells₀ = e ∙ ap (tab (λ i. ofBits binary32 0)) same in
+    rw (q, z)
 
 -- ---- the definition
 
@@ -189,7 +206,7 @@ early iou cost n m t = by-cases (eqb n 0) refl (eqb m 0) refl
     by-cases false e false f = refl
 
 module _ (params : AssociateParams) (n m : ℕ) (detections corners distance trackConfidence detectionConfidence : List Float) where
-  as-linear : linearAssignment (ious n m detections corners) (costs params n m detections corners trackConfidence detectionConfidence (mhDistSimilarity distance one n m)) n m (params .«iou_threshold»)
+  pub as-linear : linearAssignment (ious n m detections corners) (costs params n m detections corners trackConfidence detectionConfidence (mhDistSimilarity distance one n m)) n m (params .«iou_threshold»)
       ≡ associate params n m detections corners distance trackConfidence detectionConfidence
   unfolding associate
   as-linear = early (ious n m detections corners) (costs params n m detections corners trackConfidence detectionConfidence (mhDistSimilarity distance one n m)) n m (params .«iou_threshold»)

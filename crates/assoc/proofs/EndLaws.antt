@@ -1,70 +1,79 @@
--- The two ends of a call of associate: refused with nothing changed, and accepted. Assumes nothing.
-use mathlib.Core.Path.{_≡_, refl, sym, ap, _∙_}
+-- The two ends of a call of associate or associate_within: refused with nothing changed, and accepted. Assumes nothing.
+use mathlib.Core.Path.{_≡_, sym, ap, _∙_}
 use mathlib.Core.List.{List}
 use Prim.Native.Nat.{ℕ, _*_}
-use native.Mathlib.Omega.{arith}
 use lib.Ieee.{Float, nan, binary32, ofBits}
-use lib.ListN.{length}
+use lib.ListN.{length, take}
 use Rattle.laws.specs.Tab.{tab}
 use Rattle.laws.specs.Grid.{cellAt}
-use Rattle.assoc_similarity.specs.declared.cost.AssociateParams.{AssociateParams}
-use Rattle.assoc_similarity.specs.declared.refusal.Refusal.{Refusal}
-use Rattle.assoc_similarity.specs.declared.refusal.Verdict.{Verdict}
-use Rattle.assoc_similarity.specs.declared.refusal.Verdict.the-variants.{Accepted, Refused}
-use Rattle.assoc_similarity.specs.Refusal.{verdictNumber}
+use Rattle.assoc.specs.declared.cost.AssociateParams.{AssociateParams}
+use Rattle.refusals.specs.declared.refusal.Refusal.{Refusal}
+use Rattle.refusals.specs.declared.refusal.Verdict.{Verdict}
+use Rattle.refusals.specs.declared.refusal.Verdict.the-variants as verdict
 use Rattle.assoc_similarity.specs.Overlap.{iouBatch}
-use Rattle.assoc_similarity.specs.Cost.{costMatrix}
-use Rattle.assoc_similarity.proofs.Laws.{accepted-of}
-use Rattle.assoc_matching.specs.declared.assignment.AssignmentAnswer.{AssignmentAnswer}
-use Rattle.assoc_matching.specs.declared.assignment.AssignmentAnswer.the-variants as assignment-answer
-use Rattle.assoc_matching.specs.Assignment.{Assignment, linearAssignment}
-use Rattle.assoc_matching.specs.Account.{Accounted}
-use Rattle.assoc_matching.specs.Answers.{assignmentVerdict, assignmentNumber, AssignmentLeaves}
+use Rattle.assoc.specs.Cost.{costMatrix}
+use Rattle.assoc_assignment.specs.declared.assignment.AssignmentAnswer.the-variants.{Assigned, Refused}
+use Rattle.assoc_assignment.specs.Assignment.{Assignment, linearAssignment}
+use Rattle.assoc_assignment.specs.Answers.{roomOf, assignmentCounts, callWith, assignmentVerdict, assignmentCall}
+use Rattle.assoc_assignment.specs.Answers as Assignments
 use Rattle.assoc.specs.Association.{ious, costs, associate}
-use Rattle.assoc.specs.Answers.{AssociateEnds}
-use Rattle.assoc.specs.Private.{Likened, PairedUp}
+use Rattle.assoc.specs.Answers.{Lent, cleared, lentAfter, withinVerdict, associateVerdict, associateCall, withinCall}
+use Rattle.assoc.specs.Private.{Likened, withFloats}
 use Rattle.assoc.proofs.AssociationLaws.{length-matrix, associate-is}
 
-not-both : {v : Verdict} {why : Refusal} → v ≡ Refused why → v ≡ Accepted → ⊥
-not-both e f = let z : _≡_ {A = ℕ} 0 1 = cc in omega arith
+-- what linear_assignment is lent of it
+abbrev pub lentFor : Lent → Assignments.Lent
+lentFor l = record { lists = l .lists; work = l .work64 }
 
--- v is the verdict, and the distances are where the routine finds them
-module _ (params : AssociateParams) (boxes tracks : ℕ) (detections corners distance trackConfidence detectionConfidence : List Float) (v : Verdict) (pb pt dets trks : List ℕ) (work64 work32 : List Float) where
-  abbrev iou : List Float
-  iou = ious boxes tracks detections corners
+-- the assignment by the two matrices is the definition's, where the similarities of the distances lie in the front of `cells`
+pub paired-is : (params : AssociateParams) (boxes tracks : ℕ) (detections corners distance trackConfidence detectionConfidence : List Float) (l : Lent) {cells : List Float}
+    → assignmentVerdict boxes tracks (boxes * tracks) (boxes * tracks) (roomOf (l .lists)) (length (l .work64)) ≡ verdict.Accepted
+    → Likened (params .«has_mahalanobis») boxes tracks distance cells → length cells ≡ length (l .work32)
+    → withFloats (cleared cells)
+    (assignmentCall boxes tracks (ious boxes tracks detections corners) (costs params boxes tracks detections corners trackConfidence detectionConfidence (cellAt nan tracks cells)) (params .«iou_threshold») (lentFor l))
+    ≡ callWith (Assigned (assignmentCounts (associate params boxes tracks detections corners distance trackConfidence detectionConfidence)))
+    (lentAfter (associate params boxes tracks detections corners distance trackConfidence detectionConfidence) l)
+unfolding assignmentCall
+paired-is params boxes tracks detections corners distance trackConfidence detectionConfidence l {cells} e like same =
+    let iou : List Float = ious boxes tracks detections corners in
+    let cost : List Float = costs params boxes tracks detections corners trackConfidence detectionConfidence (cellAt nan tracks cells) in
+    let v : assignmentVerdict boxes tracks (length iou) (length cost) (roomOf (l .lists)) (length (l .work64)) ≡ verdict.Accepted =
+    rw (length-matrix (iouBatch detections corners) boxes tracks, length-matrix (costMatrix params detections corners trackConfidence detectionConfidence (cellAt nan tracks cells)) boxes tracks) e in
+    let a : linearAssignment iou cost boxes tracks (params .«iou_threshold») ≡ associate params boxes tracks detections corners distance trackConfidence detectionConfidence =
+    associate-is params boxes tracks detections corners distance trackConfidence detectionConfidence cells like in
+    let z : cleared cells ≡ cleared (l .work32) = ap (tab (λ i. ofBits binary32 0)) same in
+    rw (v, a, z)
+
+module _ (params : AssociateParams) (boxes tracks : ℕ) (detections corners mahalanobis trackConfidence detectionConfidence : List Float) (l : Lent) where
+  abbrev asked : Verdict
+  asked = associateVerdict params boxes tracks (length detections) (length corners) (length mahalanobis) (length trackConfidence) (length detectionConfidence) (roomOf (l .lists)) (length (l .work64)) (length (l .work32))
 
   abbrev value : Assignment
-  value = associate params boxes tracks detections corners distance trackConfidence detectionConfidence
+  value = associate params boxes tracks detections corners mahalanobis trackConfidence detectionConfidence
 
-  pub associate-refused : {u : Verdict} {why : Refusal} → u ≡ v → u ≡ Refused why
-      → AssociateEnds v boxes tracks iou (params .«iou_threshold») value pb pt dets trks work64 work32 (assignment-answer.Refused why) pb pt dets trks work64 work32
-  unfolding assignmentNumber
-  associate-refused {u} {why} e f =
-      let g : v ≡ Refused why = sym e ∙ f in
-      let n : assignmentNumber (assignment-answer.Refused why) ≡ verdictNumber v = rw g in
-      record {
-        leaves = rw g (record { answer = refl; pair-boxes = refl; pair-tracks = refl; unmatched-detections = refl; unmatched-tracks = refl; work-slice = refl });
-        floats = rw g;
-        number-is = n;
-        accepted = λ z. accepted-of v (sym n ∙ z);
-        facts = λ z. absurd (not-both g (accepted-of v (sym n ∙ z)));
-      }
+  pub associate-refused : {v : Verdict} {why : Refusal} → v ≡ asked → v ≡ verdict.Refused why
+      → callWith (Refused why) l ≡ associateCall params boxes tracks detections corners mahalanobis trackConfidence detectionConfidence l
+  unfolding associateCall
+  associate-refused e f = rw (sym e ∙ f)
 
-  pub associate-accepted : {u : Verdict} {cells : List Float} {r : AssignmentAnswer} {pb′ pt′ dets′ trks′ : List ℕ} {work64′ work32′ : List Float} → u ≡ v → u ≡ Accepted
-      → assignmentVerdict boxes tracks (boxes * tracks) (boxes * tracks) (length pb) (length pt) (length dets) (length trks) (length work64) ≡ Accepted
-      → Likened (params .«has_mahalanobis») boxes tracks distance cells → length cells ≡ length work32
-      → PairedUp boxes tracks iou (costs params boxes tracks detections corners trackConfidence detectionConfidence (cellAt nan tracks cells)) (params .«iou_threshold») pb pt dets trks work64 cells r pb′ pt′ dets′ trks′ work64′ work32′
-      → AssociateEnds v boxes tracks iou (params .«iou_threshold») value pb pt dets trks work64 work32 r pb′ pt′ dets′ trks′ work64′ work32′
-  associate-accepted {u} {cells} {r} {pb′} {pt′} {dets′} {trks′} {work64′} e f a like same d =
-      let g : v ≡ Accepted = sym e ∙ f in
-      let cost : List Float = costs params boxes tracks detections corners trackConfidence detectionConfidence (cellAt nan tracks cells) in
-      let s : assignmentVerdict boxes tracks (length iou) (length cost) (length pb) (length pt) (length dets) (length trks) (length work64) ≡ v =
-      rw (length-matrix (iouBatch detections corners) boxes tracks, length-matrix (costMatrix params detections corners trackConfidence detectionConfidence (cellAt nan tracks cells)) boxes tracks) (a ∙ sym g) in
-      let q : linearAssignment iou cost boxes tracks (params .«iou_threshold») ≡ value = associate-is params boxes tracks detections corners distance trackConfidence detectionConfidence cells like in
-      record {
-        leaves = rw (s, q) at (d .lists .leaves);
-        floats = rw g (d .floats ∙ ap (tab (λ i. ofBits binary32 0)) same);
-        number-is = d .lists .number-is ∙ ap verdictNumber s;
-        accepted = λ z. g;
-        facts = λ z. rw q at (d .lists .facts z);
-      }
+  pub associate-accepted : asked ≡ verdict.Accepted
+      → callWith (Assigned (assignmentCounts value)) (lentAfter value l) ≡ associateCall params boxes tracks detections corners mahalanobis trackConfidence detectionConfidence l
+  unfolding associateCall
+  associate-accepted e = rw e
+
+module _ (params : AssociateParams) (boxes tracks : ℕ) (detections corners trackConfidence detectionConfidence : List Float) (l : Lent) where
+  abbrev asked-within : Verdict
+  asked-within = withinVerdict params boxes tracks (length detections) (length corners) (length trackConfidence) (length detectionConfidence) (roomOf (l .lists)) (length (l .work64)) (length (l .work32))
+
+  abbrev value-within : Assignment
+  value-within = associate params boxes tracks detections corners (take (boxes * tracks) (l .work32)) trackConfidence detectionConfidence
+
+  pub within-refused : {v : Verdict} {why : Refusal} → v ≡ asked-within → v ≡ verdict.Refused why
+      → callWith (Refused why) l ≡ withinCall params boxes tracks detections corners trackConfidence detectionConfidence l
+  unfolding withinCall
+  within-refused e f = rw (sym e ∙ f)
+
+  pub within-accepted : asked-within ≡ verdict.Accepted
+      → callWith (Assigned (assignmentCounts value-within)) (lentAfter value-within l) ≡ withinCall params boxes tracks detections corners trackConfidence detectionConfidence l
+  unfolding withinCall
+  within-accepted e = rw e

@@ -1,64 +1,78 @@
--- The answers of associate: document 01, "When a call is turned down", Pairs; and what it leaves in lent memory.
-use mathlib.Core.Path.{_≡_}
+-- What a call of associate says and leaves in lent memory: document 01, "When a call is turned down", Pairs.
 use mathlib.Core.Bool.{Bool, not, _&&_, _||_}
 use mathlib.Core.List.{List}
-use Prim.Native.Nat.{ℕ, _*_}
+use Prim.Native.Nat.{ℕ, _*_, max}
 use lib.Dec.{ltb, eqb}
 use lib.Ieee.{Float, binary32, ofBits}
-use lib.ListN.{length}
+use lib.ListN.{length, take}
 use Rattle.laws.specs.Tab.{tab}
-use Rattle.laws.specs.Most.{greater}
-use Rattle.assoc_similarity.specs.declared.refusal.Verdict.{Verdict}
-use Rattle.assoc_similarity.specs.declared.refusal.Verdict.the-variants.{Accepted, Refused}
-use Rattle.assoc_similarity.specs.declared.cost.AssociateParams.{AssociateParams}
-use Rattle.assoc_similarity.specs.Refusal.{verdictNumber, tooMany, verdict}
-use Rattle.assoc_matching.specs.declared.assignment.AssignmentAnswer.{AssignmentAnswer}
-use Rattle.assoc_matching.specs.Assignment.{Assignment}
-use Rattle.assoc_matching.specs.Account.{Accounted}
-use Rattle.assoc_matching.specs.Answers.{assignmentShort, assignmentNumber, AssignmentLeaves}
+use Rattle.refusals.specs.declared.refusal.Verdict.{Verdict}
+use Rattle.assoc.specs.declared.cost.AssociateParams.{AssociateParams}
+use Rattle.refusals.specs.Refusal.{tooMany, verdict}
+use Rattle.assoc_assignment.specs.declared.assignment.AssignmentCounts.{AssignmentCounts}
+use Rattle.assoc_assignment.specs.Assignment.{Assignment}
+use Rattle.assoc_matching.specs.Answers.{Call, callBy, zeroed}
+use Rattle.assoc_assignment.specs.Answers.{Lists, listsWith, listed, Room, roomOf, assignmentCounts, noCounts, assignmentShort}
+use Rattle.assoc.specs.Association.{associate}
 
--- corners or confidences of another size, from their lengths
+-- ---- lent memory
+
+pub record Lent : Type 0 where
+  pub lists : Lists
+  pub work64 : List Float
+  pub work32 : List Float
+
+abbrev pub lentWith : List ℕ → List ℕ → List ℕ → List ℕ → List Float → List Float → Lent
+lentWith pairBoxes pairTracks unmatchedDetections unmatchedTracks work64 work32 =
+    record { lists = listsWith pairBoxes pairTracks unmatchedDetections unmatchedTracks; work64 = work64; work32 = work32 }
+
+abbrev pub cleared : List Float → List Float
+cleared l = tab (λ i. ofBits binary32 0) (length l)
+
+-- the lists of an assignment over the fronts, and the work slices zero
+abbrev pub lentAfter : Assignment → Lent → Lent
+lentAfter a l = record { lists = listed a (l .lists); work64 = zeroed (l .work64); work32 = cleared (l .work32) }
+
+-- ---- the verdict, from the lengths of what is given and lent
+
+-- corners or confidences of another size
 abbrev pub otherSize : AssociateParams → ℕ → ℕ → ℕ → ℕ → ℕ → ℕ → Bool
 otherSize params boxes tracks detections corners trackConfidence detectionConfidence =
     (not (eqb detections (boxes * 4)) || not (eqb corners (tracks * 4)))
     || (params .«has_confidence» && (not (eqb trackConfidence tracks) || not (eqb detectionConfidence boxes)))
 
--- a result or a work slice too short: work32 has 4 n n floats
-abbrev pub associateShort : ℕ → ℕ → ℕ → ℕ → ℕ → ℕ → ℕ → ℕ → Bool
-associateShort boxes tracks pairs partners detections left work64 work32 =
-    let n = greater boxes tracks in
-    ltb work32 (4 * (n * n)) || assignmentShort boxes tracks pairs partners detections left work64
+-- a list or a work slice too short: work32 has 4 n n floats
+abbrev pub associateShort : ℕ → ℕ → Room → ℕ → ℕ → Bool
+associateShort boxes tracks room work64 work32 =
+    let n = max boxes tracks in
+    ltb work32 (4 * (n * n)) || assignmentShort boxes tracks room work64
 
--- from the lengths of the corners, of the confidences, of the results and of the work slices
-unfoldable pub withinVerdict : AssociateParams → ℕ → ℕ → ℕ → ℕ → ℕ → ℕ → ℕ → ℕ → ℕ → ℕ → ℕ → ℕ → Verdict
-withinVerdict params boxes tracks detections corners trackConfidence detectionConfidence pairs partners unmatchedDetections unmatchedTracks work64 work32 =
+unfoldable pub withinVerdict : AssociateParams → ℕ → ℕ → ℕ → ℕ → ℕ → ℕ → Room → ℕ → ℕ → Verdict
+withinVerdict params boxes tracks detections corners trackConfidence detectionConfidence room work64 work32 =
     verdict
     (tooMany boxes tracks)
     (otherSize params boxes tracks detections corners trackConfidence detectionConfidence)
-    (associateShort boxes tracks pairs partners unmatchedDetections unmatchedTracks work64 work32)
+    (associateShort boxes tracks room work64 work32)
 
--- and of the distances
-unfoldable pub associateVerdict : AssociateParams → ℕ → ℕ → ℕ → ℕ → ℕ → ℕ → ℕ → ℕ → ℕ → ℕ → ℕ → ℕ → ℕ → Verdict
-associateVerdict params boxes tracks detections corners mahalanobis trackConfidence detectionConfidence pairs partners unmatchedDetections unmatchedTracks work64 work32 =
+-- with distances
+unfoldable pub associateVerdict : AssociateParams → ℕ → ℕ → ℕ → ℕ → ℕ → ℕ → ℕ → Room → ℕ → ℕ → Verdict
+associateVerdict params boxes tracks detections corners mahalanobis trackConfidence detectionConfidence room work64 work32 =
     verdict
     (tooMany boxes tracks)
     ((params .«has_mahalanobis» && not (eqb mahalanobis (boxes * tracks))) || otherSize params boxes tracks detections corners trackConfidence detectionConfidence)
-    (associateShort boxes tracks pairs partners unmatchedDetections unmatchedTracks work64 work32)
+    (associateShort boxes tracks room work64 work32)
 
-abbrev pub cleared : List Float → List Float
-cleared l = tab (λ i. ofBits binary32 0) (length l)
+-- ---- a call
 
-abbrev pub clearedThen : Verdict → List Float → List Float
-clearedThen Accepted l = cleared l
-clearedThen (Refused why) l = l
+unfoldable pub associateCall : AssociateParams → ℕ → ℕ → List Float → List Float → List Float → List Float → List Float → Lent → Call AssignmentCounts Lent
+associateCall params boxes tracks detections corners mahalanobis trackConfidence detectionConfidence l =
+    let v = associateVerdict params boxes tracks (length detections) (length corners) (length mahalanobis) (length trackConfidence) (length detectionConfidence) (roomOf (l .lists)) (length (l .work64)) (length (l .work32)) in
+    let a = associate params boxes tracks detections corners mahalanobis trackConfidence detectionConfidence in
+    callBy v (assignmentCounts a) (lentAfter a l) noCounts l
 
--- by the verdict v, the IoU matrix and the definition's value a
-pub record AssociateEnds (v : Verdict) (boxes tracks : ℕ) (iou : List Float) (threshold : Float) (a : Assignment) (pairBoxes pairTracks unmatchedDetections unmatchedTracks : List ℕ) (work64 work32 : List Float)
-    (r : AssignmentAnswer) (pairBoxes′ pairTracks′ unmatchedDetections′ unmatchedTracks′ : List ℕ) (work64′ work32′ : List Float) : Type 0 where
-  -- the answer and each cell of lent memory are the definition's; a refused call changes nothing
-  pub leaves : AssignmentLeaves v a pairBoxes pairTracks unmatchedDetections unmatchedTracks work64 r pairBoxes′ pairTracks′ unmatchedDetections′ unmatchedTracks′ work64′
-  pub floats : work32′ ≡ clearedThen v work32
-  -- for callers: the number is the verdict's, and what follows of an accepted call
-  pub number-is : assignmentNumber r ≡ verdictNumber v
-  pub accepted : assignmentNumber r ≡ 0 → v ≡ Accepted
-  pub facts : assignmentNumber r ≡ 0 → Accounted iou boxes tracks threshold a
+-- of associate_within: the distances are what lies in the front of work32
+unfoldable pub withinCall : AssociateParams → ℕ → ℕ → List Float → List Float → List Float → List Float → Lent → Call AssignmentCounts Lent
+withinCall params boxes tracks detections corners trackConfidence detectionConfidence l =
+    let v = withinVerdict params boxes tracks (length detections) (length corners) (length trackConfidence) (length detectionConfidence) (roomOf (l .lists)) (length (l .work64)) (length (l .work32)) in
+    let a = associate params boxes tracks detections corners (take (boxes * tracks) (l .work32)) trackConfidence detectionConfidence in
+    callBy v (assignmentCounts a) (lentAfter a l) noCounts l

@@ -7,11 +7,11 @@ use lib.Ieee.{Float}
 use Rattle.laws.specs.Tab.{indices}
 use Rattle.laws.specs.Grid.{grid}
 use Rattle.floats.specs.Single.{one}
-use Rattle.assoc_similarity.specs.declared.cost.AssociateParams.{AssociateParams}
+use Rattle.assoc.specs.declared.cost.AssociateParams.{AssociateParams}
 use Rattle.assoc_similarity.specs.Overlap.{iouBatch}
 use Rattle.assoc_similarity.specs.Mahalanobis.{mhDistSimilarity}
-use Rattle.assoc_similarity.specs.Cost.{costMatrix}
-use Rattle.assoc_matching.specs.Assignment.{Assignment, assignment, linearAssignment}
+use Rattle.assoc.specs.Cost.{costMatrix}
+use Rattle.assoc_assignment.specs.Assignment.{Assignment, assignment, linearAssignment}
 
 -- iou_matrix, as a list
 abbrev pub ious : ℕ → ℕ → List Float → List Float → List Float

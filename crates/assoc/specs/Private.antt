@@ -1,16 +1,20 @@
--- What the contracts of the private functions of association.rt cite. proofs/ shows that it comes to the definition.
+-- What the contracts of the private functions cite. proofs/ shows that it comes to the definition.
 use mathlib.Core.Path.{_≡_}
-use mathlib.Core.Bool.{Bool, true}
+use mathlib.Core.Bool.{Bool, true, cond}
 use mathlib.Core.List.{List}
 use Prim.Native.Nat.{ℕ, _*_, _≤_, _<_}
 use lib.Ieee.{Float, nan}
 use lib.ListN.{take, drop}
 use Rattle.laws.specs.Grid.{cellAt}
-use Rattle.floats.specs.Single.{one}
+use Rattle.floats.specs.Single.{_⊕_, _⊗_, one}
+use Rattle.assoc_boxes.specs.declared.overlap.BoundingBox.{BoundingBox}
+use Rattle.assoc_similarity.specs.Shape.{shapeV1, shapeV2}
 use Rattle.assoc_similarity.specs.Mahalanobis.{mhDistSimilarity}
-use Rattle.assoc_matching.specs.declared.assignment.AssignmentAnswer.{AssignmentAnswer}
-use Rattle.assoc_matching.specs.Answers.{AssignmentEnds}
-use Rattle.assoc.specs.Answers.{cleared}
+use Rattle.assoc_assignment.specs.declared.assignment.AssignmentCounts.{AssignmentCounts}
+use Rattle.assoc_matching.specs.Answers.{Call}
+use Rattle.assoc_assignment.specs.Answers as Assignments
+use Rattle.assoc.specs.declared.cost.AssociateParams.{AssociateParams}
+use Rattle.assoc.specs.Answers.{Lent}
 
 -- corners that fit the sides, and room for two matrices
 pub record Cornered (boxes tracks detections corners cells : ℕ) : Type 0 where
@@ -29,8 +33,18 @@ pub record Halves (n : ℕ) (cost iou cells : List Float) : Type 0 where
   pub costs-are : take n cells ≡ cost
   pub ious-are : take n (drop n cells) ≡ iou
 
--- the assignment by two matrices, and the floats cleared
-pub record PairedUp (boxes tracks : ℕ) (iou cost : List Float) (threshold : Float) (pairBoxes pairTracks unmatchedDetections unmatchedTracks : List ℕ) (work64 work32 : List Float)
-    (r : AssignmentAnswer) (pairBoxes′ pairTracks′ unmatchedDetections′ unmatchedTracks′ : List ℕ) (work64′ work32′ : List Float) : Type 0 where
-  pub lists : AssignmentEnds boxes tracks iou cost threshold pairBoxes pairTracks unmatchedDetections unmatchedTracks work64 r pairBoxes′ pairTracks′ unmatchedDetections′ unmatchedTracks′ work64′
-  pub floats : work32′ ≡ cleared work32
+-- a call of linear_assignment, with the floats that lie beside it
+abbrev pub withFloats : List Float → Call AssignmentCounts Assignments.Lent → Call AssignmentCounts Lent
+withFloats work32 c = record { number = c .number; counts = c .counts; lent = record { lists = c .lent .lists; work64 = c .lent .work; work32 = work32 } }
+
+-- ---- the cost of a cell, with confidences and without
+
+unfoldable pub sureCost : AssociateParams → BoundingBox → BoundingBox → Float → Float → Float → Float
+sureCost params det trk iou conf mhSim =
+    let weighted : Float = iou ⊕ params .«lambda_iou» ⊗ conf ⊗ iou in
+    cond (params .«has_mahalanobis»)
+    (weighted ⊕ params .«lambda_mhd» ⊗ mhSim ⊕ params .«lambda_shape» ⊗ conf ⊗ cond (params .«use_shape_similarity_correction») (shapeV2 det trk) (shapeV1 det trk))
+    weighted
+
+unfoldable pub unsureCost : AssociateParams → Float → Float → Float
+unsureCost params iou mhSim = cond (params .«has_mahalanobis») (iou ⊕ params .«lambda_mhd» ⊗ mhSim) iou

@@ -5,22 +5,23 @@ ghost use Prim.Native.Nat.{_*_, _≤_};
 ghost use lib.ListN.{length, take, drop};
 ghost use lib.Ieee.{nan};
 ghost use Rattle.laws.specs.Grid.{cellAt};
-ghost use Rattle.assoc_matching.specs.Answers.{AssignmentEnds};
+ghost use Rattle.refusals.specs.declared.refusal.Verdict.the-variants.{Accepted};
+ghost use Rattle.assoc_assignment.specs.Answers.{roomWith, callWith, assignmentCall};
+ghost use Rattle.assoc_assignment.specs.Answers as Assignments;
 ghost use Rattle.assoc.specs.Association.{ious, costs};
-ghost use Rattle.assoc.specs.Association as Association;
-ghost use Rattle.assoc.specs.Answers.{otherSize, withinVerdict, associateVerdict, cleared, AssociateEnds};
-ghost use Rattle.assoc.specs.Private.{Cornered, Likened, Halves, PairedUp};
-use assoc_matching::AssignmentAnswer;
-use assoc_matching::assignment_verdict;
-use assoc_matching::larger;
-use assoc_matching::linear_assignment;
-use assoc_similarity::AssociateParams;
-use assoc_similarity::Refusal;
-use assoc_similarity::Verdict;
-use assoc_similarity::associate_cost;
+ghost use Rattle.assoc.specs.Answers.{lentWith, otherSize, withinVerdict, associateVerdict, cleared, associateCall, withinCall};
+ghost use Rattle.assoc.specs.Private.{Cornered, Likened, Halves, withFloats};
+use super::cost::AssociateParams;
+use super::cost::associate_cost;
+use assoc_assignment::AssignmentAnswer;
+use assoc_assignment::assignment_verdict;
+use assoc_assignment::linear_assignment;
 use assoc_similarity::iou_batch;
 use assoc_similarity::mh_dist_similarity;
 use assoc_similarity::mh_dist_similarity_over;
+use refusals::Refusal;
+use refusals::Verdict;
+use refusals::larger;
 
 // ---- refusals
 
@@ -56,7 +57,7 @@ fn within_verdict(
     work64: usize,
     work32: usize,
 ) -> Verdict
-    ensures { λ r. ⌜ r ≡ withinVerdict params boxes tracks detections corners «track_confidence» «detection_confidence» pairs partners «unmatched_detections» «unmatched_tracks» work64 work32 ⌝ }
+    ensures { λ r. ⌜ r ≡ withinVerdict params boxes tracks detections corners «track_confidence» «detection_confidence» (roomWith pairs partners «unmatched_detections» «unmatched_tracks») work64 work32 ⌝ }
 {
     if (255 < boxes) | (255 < tracks) {
         return Verdict::Refused(Refusal::TooMany);
@@ -106,7 +107,7 @@ fn associate_verdict(
     work64: usize,
     work32: usize,
 ) -> Verdict
-    ensures { λ r. ⌜ r ≡ associateVerdict params boxes tracks detections corners mahalanobis «track_confidence» «detection_confidence» pairs partners «unmatched_detections» «unmatched_tracks» work64 work32 ⌝ }
+    ensures { λ r. ⌜ r ≡ associateVerdict params boxes tracks detections corners mahalanobis «track_confidence» «detection_confidence» (roomWith pairs partners «unmatched_detections» «unmatched_tracks») work64 work32 ⌝ }
 {
     if (255 < boxes) | (255 < tracks) {
         return Verdict::Refused(Refusal::TooMany);
@@ -133,29 +134,33 @@ fn associate_verdict(
 
 // ---- the matrices
 
+// The matrices and similarities of an accepted call are not refused, as their contracts say.
+
 // The similarities of the distances, in the front of `cells`.
-fn liken(has: bool, boxes: usize, tracks: usize, mahalanobis: &[f32], cells: &mut [f32])
+fn liken(has: bool, boxes: usize, tracks: usize, mahalanobis: &[f32], cells: &mut [f32]) -> Verdict
     requires sides { ⌜ (boxes ≤ 255) × (tracks ≤ 255) × (boxes * tracks ≤ length (now cells)) ⌝ }
     requires distances { ⌜ (has ≡ true → length (now mahalanobis) ≡ boxes * tracks) ⌝ }
-    ensures { λ _. ⌜ Likened has boxes tracks (now (mahalanobis .entry)) (now (cells .exit)) ⌝ }
+    ensures answer { λ r. ⌜ r ≡ Accepted ⌝ }
+    ensures cells { λ _. ⌜ Likened has boxes tracks (now (mahalanobis .entry)) (now (cells .exit)) ⌝ }
 {
     if has {
         let end = boxes * tracks;
-        mh_dist_similarity(boxes, tracks, mahalanobis, 1.0, &mut cells[..end]);
-        return;
+        return mh_dist_similarity(boxes, tracks, mahalanobis, 1.0, &mut cells[..end]);
     }
+    Verdict::Accepted
 }
 
 // The same over distances that lie there.
-fn liken_within(has: bool, boxes: usize, tracks: usize, cells: &mut [f32])
+fn liken_within(has: bool, boxes: usize, tracks: usize, cells: &mut [f32]) -> Verdict
     requires { ⌜ (boxes ≤ 255) × (tracks ≤ 255) × (boxes * tracks ≤ length (now cells)) ⌝ }
-    ensures { λ _. ⌜ Likened has boxes tracks (take (boxes * tracks) (now (cells .entry))) (now (cells .exit)) ⌝ }
+    ensures answer { λ r. ⌜ r ≡ Accepted ⌝ }
+    ensures cells { λ _. ⌜ Likened has boxes tracks (take (boxes * tracks) (now (cells .entry))) (now (cells .exit)) ⌝ }
 {
     if has {
         let end = boxes * tracks;
-        mh_dist_similarity_over(boxes, tracks, 1.0, &mut cells[..end]);
-        return;
+        return mh_dist_similarity_over(boxes, tracks, 1.0, &mut cells[..end]);
     }
+    Verdict::Accepted
 }
 
 // The costs over the similarities in the front of `cells`, and the IoU matrix behind them.
@@ -168,9 +173,10 @@ fn matrices(
     track_confidence: &[f32],
     detection_confidence: &[f32],
     cells: &mut [f32],
-)
+) -> Verdict
     requires { ⌜ Cornered boxes tracks (length (now detections)) (length (now corners)) (length (now cells)) ⌝ }
-    ensures { λ _. ⌜ Halves (boxes * tracks) (costs params boxes tracks (now (detections .entry)) (now (corners .entry)) (now («track_confidence» .entry)) (now («detection_confidence» .entry)) (cellAt nan tracks (now (cells .entry))))
+    ensures answer { λ r. ⌜ r ≡ Accepted ⌝ }
+    ensures cells { λ _. ⌜ Halves (boxes * tracks) (costs params boxes tracks (now (detections .entry)) (now (corners .entry)) (now («track_confidence» .entry)) (now («detection_confidence» .entry)) (cellAt nan tracks (now (cells .entry))))
         (ious boxes tracks (now (detections .entry)) (now (corners .entry))) (now (cells .exit)) ⌝ }
 {
     let half = boxes * tracks;
@@ -185,7 +191,7 @@ fn matrices(
         detection_confidence,
         &mut cells[..half],
     );
-    iou_batch(boxes, tracks, detections, corners, &mut cells[half..end]);
+    iou_batch(boxes, tracks, detections, corners, &mut cells[half..end])
 }
 
 // ---- the assignment
@@ -203,9 +209,9 @@ fn assign(
     work64: &mut [f64],
 ) -> AssignmentAnswer
     requires { ⌜ (boxes ≤ 255) × (tracks ≤ 255) × (2 * (boxes * tracks) ≤ length (now cells)) ⌝ }
-    ensures { λ r. ⌜ AssignmentEnds boxes tracks (take (boxes * tracks) (drop (boxes * tracks) (now (cells .entry)))) (take (boxes * tracks) (now (cells .entry))) threshold
-        (now («pair_boxes» .entry)) (now («pair_tracks» .entry)) (now (detections .entry)) (now (left .entry)) (now (work64 .entry))
-        r (now («pair_boxes» .exit)) (now («pair_tracks» .exit)) (now (detections .exit)) (now (left .exit)) (now (work64 .exit)) ⌝ }
+    ensures { λ r. ⌜ callWith r (Assignments.lentWith (now («pair_boxes» .exit)) (now («pair_tracks» .exit)) (now (detections .exit)) (now (left .exit)) (now (work64 .exit)))
+        ≡ assignmentCall boxes tracks (take (boxes * tracks) (drop (boxes * tracks) (now (cells .entry)))) (take (boxes * tracks) (now (cells .entry))) threshold
+        (Assignments.lentWith (now («pair_boxes» .entry)) (now («pair_tracks» .entry)) (now (detections .entry)) (now (left .entry)) (now (work64 .entry))) ⌝ }
 {
     let half = boxes * tracks;
     let end = half + half;
@@ -250,12 +256,14 @@ fn pair_up(
     work32: &mut [f32],
 ) -> AssignmentAnswer
     requires { ⌜ Cornered boxes tracks (length (now detections)) (length (now corners)) (length (now work32)) ⌝ }
-    ensures { λ r. ⌜ PairedUp boxes tracks (ious boxes tracks (now (detections .entry)) (now (corners .entry)))
-        (costs params boxes tracks (now (detections .entry)) (now (corners .entry)) (now («track_confidence» .entry)) (now («detection_confidence» .entry)) (cellAt nan tracks (now (work32 .entry)))) (params .«iou_threshold»)
-        (now («pair_boxes» .entry)) (now («pair_tracks» .entry)) (now («unmatched_detections» .entry)) (now («unmatched_tracks» .entry)) (now (work64 .entry)) (now (work32 .entry))
-        r (now («pair_boxes» .exit)) (now («pair_tracks» .exit)) (now («unmatched_detections» .exit)) (now («unmatched_tracks» .exit)) (now (work64 .exit)) (now (work32 .exit)) ⌝ }
+    ensures { λ r. ⌜ (let cells = now (work32 .entry) in
+        let iou = ious boxes tracks (now (detections .entry)) (now (corners .entry)) in
+        let cost = costs params boxes tracks (now (detections .entry)) (now (corners .entry)) (now («track_confidence» .entry)) (now («detection_confidence» .entry)) (cellAt nan tracks cells) in
+        callWith r (lentWith (now («pair_boxes» .exit)) (now («pair_tracks» .exit)) (now («unmatched_detections» .exit)) (now («unmatched_tracks» .exit)) (now (work64 .exit)) (now (work32 .exit)))
+        ≡ withFloats (cleared cells) (assignmentCall boxes tracks iou cost (params .«iou_threshold»)
+        (Assignments.lentWith (now («pair_boxes» .entry)) (now («pair_tracks» .entry)) (now («unmatched_detections» .entry)) (now («unmatched_tracks» .entry)) (now (work64 .entry))))) ⌝ }
 {
-    matrices(
+    let verdict = matrices(
         params,
         boxes,
         tracks,
@@ -265,6 +273,9 @@ fn pair_up(
         detection_confidence,
         work32,
     );
+    if let Verdict::Refused(why) = verdict {
+        return AssignmentAnswer::Refused(why);
+    }
     let answer = assign(
         work32,
         boxes,
@@ -297,12 +308,9 @@ pub fn associate(
     work64: &mut [f64],
     work32: &mut [f32],
 ) -> AssignmentAnswer
-    ensures { λ r. ⌜ AssociateEnds (associateVerdict params boxes tracks (length (now (detections .entry))) (length (now (corners .entry))) (length (now (mahalanobis .entry))) (length (now («track_confidence» .entry))) (length (now («detection_confidence» .entry)))
-        (length (now («pair_boxes» .entry))) (length (now («pair_tracks» .entry))) (length (now («unmatched_detections» .entry))) (length (now («unmatched_tracks» .entry))) (length (now (work64 .entry))) (length (now (work32 .entry))))
-        boxes tracks (ious boxes tracks (now (detections .entry)) (now (corners .entry))) (params .«iou_threshold»)
-        (Association.associate params boxes tracks (now (detections .entry)) (now (corners .entry)) (now (mahalanobis .entry)) (now («track_confidence» .entry)) (now («detection_confidence» .entry)))
-        (now («pair_boxes» .entry)) (now («pair_tracks» .entry)) (now («unmatched_detections» .entry)) (now («unmatched_tracks» .entry)) (now (work64 .entry)) (now (work32 .entry))
-        r (now («pair_boxes» .exit)) (now («pair_tracks» .exit)) (now («unmatched_detections» .exit)) (now («unmatched_tracks» .exit)) (now (work64 .exit)) (now (work32 .exit)) ⌝ }
+    ensures { λ r. ⌜ callWith r (lentWith (now («pair_boxes» .exit)) (now («pair_tracks» .exit)) (now («unmatched_detections» .exit)) (now («unmatched_tracks» .exit)) (now (work64 .exit)) (now (work32 .exit)))
+        ≡ associateCall params boxes tracks (now (detections .entry)) (now (corners .entry)) (now (mahalanobis .entry)) (now («track_confidence» .entry)) (now («detection_confidence» .entry))
+        (lentWith (now («pair_boxes» .entry)) (now («pair_tracks» .entry)) (now («unmatched_detections» .entry)) (now («unmatched_tracks» .entry)) (now (work64 .entry)) (now (work32 .entry))) ⌝ }
 {
     let verdict = associate_verdict(
         params,
@@ -323,7 +331,10 @@ pub fn associate(
     if let Verdict::Refused(why) = verdict {
         return AssignmentAnswer::Refused(why);
     }
-    liken(params.has_mahalanobis, boxes, tracks, mahalanobis, work32);
+    let likened = liken(params.has_mahalanobis, boxes, tracks, mahalanobis, work32);
+    if let Verdict::Refused(why) = likened {
+        return AssignmentAnswer::Refused(why);
+    }
     pair_up(
         params,
         boxes,
@@ -357,12 +368,9 @@ pub fn associate_within(
     work64: &mut [f64],
     work32: &mut [f32],
 ) -> AssignmentAnswer
-    ensures { λ r. ⌜ AssociateEnds (withinVerdict params boxes tracks (length (now (detections .entry))) (length (now (corners .entry))) (length (now («track_confidence» .entry))) (length (now («detection_confidence» .entry)))
-        (length (now («pair_boxes» .entry))) (length (now («pair_tracks» .entry))) (length (now («unmatched_detections» .entry))) (length (now («unmatched_tracks» .entry))) (length (now (work64 .entry))) (length (now (work32 .entry))))
-        boxes tracks (ious boxes tracks (now (detections .entry)) (now (corners .entry))) (params .«iou_threshold»)
-        (Association.associate params boxes tracks (now (detections .entry)) (now (corners .entry)) (take (boxes * tracks) (now (work32 .entry))) (now («track_confidence» .entry)) (now («detection_confidence» .entry)))
-        (now («pair_boxes» .entry)) (now («pair_tracks» .entry)) (now («unmatched_detections» .entry)) (now («unmatched_tracks» .entry)) (now (work64 .entry)) (now (work32 .entry))
-        r (now («pair_boxes» .exit)) (now («pair_tracks» .exit)) (now («unmatched_detections» .exit)) (now («unmatched_tracks» .exit)) (now (work64 .exit)) (now (work32 .exit)) ⌝ }
+    ensures { λ r. ⌜ callWith r (lentWith (now («pair_boxes» .exit)) (now («pair_tracks» .exit)) (now («unmatched_detections» .exit)) (now («unmatched_tracks» .exit)) (now (work64 .exit)) (now (work32 .exit)))
+        ≡ withinCall params boxes tracks (now (detections .entry)) (now (corners .entry)) (now («track_confidence» .entry)) (now («detection_confidence» .entry))
+        (lentWith (now («pair_boxes» .entry)) (now («pair_tracks» .entry)) (now («unmatched_detections» .entry)) (now («unmatched_tracks» .entry)) (now (work64 .entry)) (now (work32 .entry))) ⌝ }
 {
     let verdict = within_verdict(
         params,
@@ -382,7 +390,10 @@ pub fn associate_within(
     if let Verdict::Refused(why) = verdict {
         return AssignmentAnswer::Refused(why);
     }
-    liken_within(params.has_mahalanobis, boxes, tracks, work32);
+    let likened = liken_within(params.has_mahalanobis, boxes, tracks, work32);
+    if let Verdict::Refused(why) = likened {
+        return AssignmentAnswer::Refused(why);
+    }
     pair_up(
         params,
         boxes,

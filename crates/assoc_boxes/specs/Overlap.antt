@@ -3,7 +3,7 @@ use mathlib.Core.Path.{_≡_, refl}
 use mathlib.Core.Bool.{false, cond}
 use lib.Ieee.{Float, binary32, ofBits, round, lt}
 use Rattle.floats.specs.Pick.{larger, smaller}
-use Rattle.floats.specs.Single.{_⊕_, _⊖_, _⊗_, _⊘_, zero, one}
+use Rattle.floats.specs.Single.{_⊕_, _⊖_, _⊗_, _⊘_, plusZero, one}
 use Rattle.assoc_boxes.specs.declared.overlap.BoundingBox.{BoundingBox}
 
 -- a box by its corners, with the width, height and area that the Rust takes from them
@@ -17,8 +17,8 @@ intersection det trk =
     let yy1 : Float = larger (det .y1) (trk .y1) in
     let xx2 : Float = smaller (det .x2) (trk .x2) in
     let yy2 : Float = smaller (det .y2) (trk .y2) in
-    let w : Float = larger (xx2 ⊖ xx1) zero in
-    let h : Float = larger (yy2 ⊖ yy1) zero in
+    let w : Float = larger (xx2 ⊖ xx1) plusZero in
+    let h : Float = larger (yy2 ⊖ yy1) plusZero in
     w ⊗ h
 
 unfoldable pub union : BoundingBox → BoundingBox → Float
@@ -26,7 +26,7 @@ unfolding intersection
 union det trk = det .area ⊕ trk .area ⊖ intersection det trk
 
 unfoldable pub ratio : Float → Float → Float
-ratio wh union = cond (lt zero union) (wh ⊘ union) zero
+ratio wh union = cond (lt plusZero union) (wh ⊘ union) plusZero
 
 unfoldable pub overlap : BoundingBox → BoundingBox → Float
 unfolding intersection union ratio

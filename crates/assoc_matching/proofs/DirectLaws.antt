@@ -11,13 +11,14 @@ use lib.ListN.{length, getD, set, take, replicate, length-replicate, getD-replic
 use lib.Seq.{length-take-le, getD-take}
 use Rattle.laws.specs.Tab.{tab, tab-ext, tab-at, tab-of, length-tab, Filling, fill-start, fill-on, fill-whole, fill-ahead}
 use Rattle.laws.specs.Tests.{false-not-true}
-use Rattle.laws.specs.Count.{bit, count, count-none, count-more, count-few}
+use Rattle.laws.specs.Count.{bit, countWhere, count-none, count-more, count-few}
 use Rattle.laws.specs.Most.{most, most-ext, Low, low-start, low-on, low-end, high}
-use Rattle.laws.specs.Last.{last, last-none, last-more, last-few}
+use Rattle.laws.specs.Last.{lastWhere, last-none, last-more, last-few}
 use Rattle.laws.specs.Grid.{row-next, row-ends}
 use Rattle.assoc_matching.specs.declared.matching.RowSum.{RowSum}
 use Rattle.assoc_matching.specs.Matching.{above, mask, rowSum, colSum, simple}
-use Rattle.assoc_matching.specs.PrivateMatching.{Sized, Clean, RowIn, RowOut, raised, Direct}
+use Rattle.assoc_matching.specs.Partners.{Sized, Clean}
+use Rattle.assoc_matching.specs.Private.{RowIn, RowOut, raised, Direct}
 
 -- a local array, cut to its length
 pub clean : {A : Type 0} (n k : ℕ) (z : A) → n ≤ k → Clean n z (take n (replicate k z))
@@ -28,8 +29,8 @@ clean n k z h = record {
 
 -- at cell j of a row
 pub record Summing (p : ℕ → Bool) (m : ℕ) (sums : List ℕ) (j sum lst : ℕ) (out : List ℕ) : Type 0 where
-  pub sum-is : sum ≡ count p j
-  pub last-is : lst ≡ last p m j
+  pub sum-is : sum ≡ countWhere p j
+  pub last-is : lst ≡ lastWhere p m j
   pub cols : Filling (raised p sums) sums m j out
 
 module _ (p : ℕ → Bool) (m : ℕ) (sums : List ℕ) where
@@ -65,7 +66,7 @@ pub record Summed (cost : List Float) (n m : ℕ) (t : Float) (partner₀ : List
   pub low : Low (rowSum cost m t) 1 n i
   pub place : at ≡ i * m
   pub cols : sums ≡ tab (colSum cost i m t) m
-  pub partners : Filling (λ k. last (mask cost m t k) m m) partner₀ n i partner
+  pub partners : Filling (λ k. lastWhere (mask cost m t k) m m) partner₀ n i partner
 
 module _ (cost : List Float) (n m : ℕ) (t : Float) (partner₀ : List ℕ) where
   pub rows-begin : {sums : List ℕ} → Clean m 0 sums → Summed cost n m t partner₀ 0 0 partner₀ sums

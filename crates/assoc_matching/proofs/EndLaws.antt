@@ -1,89 +1,74 @@
 -- The two ends of a public call: refused with nothing changed, and accepted. Assumes nothing.
-use mathlib.Core.Path.{_≡_, refl, sym, ap, _∙_}
+use mathlib.Core.Path.{_≡_, sym, ap, _∙_}
 use mathlib.Core.List.{List}
 use Prim.Native.Nat.{ℕ}
+use native.Mathlib.Omega.{arith}
 use lib.Ieee.{Float}
 use lib.ListN.{length}
-use Rattle.assoc_similarity.specs.declared.refusal.Refusal.{Refusal}
-use Rattle.assoc_similarity.specs.Refusal.{verdictNumber}
-use Rattle.assoc_similarity.proofs.Laws.{accepted-of}
-use Rattle.assoc_similarity.specs.declared.refusal.Verdict.{Verdict}
-use Rattle.assoc_similarity.specs.declared.refusal.Verdict.the-variants.{Accepted, Refused}
-use Rattle.assoc_matching.specs.declared.matching.MatchCounts.{MatchCounts}
+use Rattle.lapjv.specs.declared.Counts.{Counts}
+use Rattle.refusals.specs.declared.refusal.Refusal.{Refusal}
+use Rattle.refusals.specs.declared.refusal.Refusal.the-variants.{TooMany, OtherSize, TooShort}
+use Rattle.refusals.specs.declared.refusal.Verdict.{Verdict}
+use Rattle.refusals.specs.declared.refusal.Verdict.the-variants.{Accepted, Refused}
+use Rattle.refusals.specs.Refusal.{number}
 use Rattle.assoc_matching.specs.declared.matching.MatchAnswer.the-variants as match-answer
-use Rattle.assoc_matching.specs.declared.assignment.AssignmentCounts.{AssignmentCounts}
-use Rattle.assoc_matching.specs.declared.assignment.AssignmentAnswer.the-variants as assignment-answer
-use Rattle.assoc_matching.specs.declared.matching.MatchAnswer.{MatchAnswer}
-use Rattle.assoc_matching.specs.declared.assignment.AssignmentAnswer.{AssignmentAnswer}
+use Rattle.assoc_matching.specs.declared.matching.PartnerAnswer.{PartnerAnswer}
+use Rattle.assoc_matching.specs.declared.matching.PartnerAnswer.the-variants as partner-answer
 use Rattle.assoc_matching.specs.Matching.{Matched, matchDetections}
-use Rattle.assoc_matching.specs.Assignment.{Assignment, linearAssignment}
-use Rattle.assoc_matching.specs.Account.{OneToOne, Accounted}
-use Rattle.assoc_matching.specs.Answers.{matchVerdict, matchAnswer, matchNumber, MatchLeaves, MatchEnds, assignmentVerdict, assignmentAnswer, assignmentNumber, AssignmentLeaves, AssignmentEnds}
-use Rattle.assoc_matching.specs.PrivateMatching.{MatchDone}
-use Rattle.assoc_matching.specs.PrivateAssignment.{AssignmentDone}
-use Rattle.assoc_matching.proofs.AnswerLaws.{match-ready, assignment-ready}
-use Rattle.assoc_matching.proofs.AccountLaws.{one-to-one, accounted}
+use Rattle.assoc_matching.specs.Answers.{Call, zeroed, PartnerLent, partnerLentWith, partnerCallWith, partnerVerdict, partnerCall, MatchLent, matchLentAfter, matchCounts, matchCallWith, matchVerdict, matchCall}
+use Rattle.assoc_matching.specs.Partners.{Partnered, PartnerReady}
+use Rattle.assoc_matching.proofs.AnswerLaws.{partner-accepted}
 
--- an answer's number is the verdict's
-match-number : (v : Verdict) (a : Matched) {r : MatchAnswer} → r ≡ matchAnswer v a → matchNumber r ≡ verdictNumber v
-unfolding matchNumber
-match-number Accepted a e = rw e
-match-number (Refused why) a e = rw e
+module _ (boxes tracks : ℕ) (cost : List Float) (threshold : Float) (l : PartnerLent) where
+  abbrev sought : Verdict
+  sought = partnerVerdict boxes tracks (length cost) (length (l .partner)) (length (l .work))
 
-assignment-number : (v : Verdict) (a : Assignment) {r : AssignmentAnswer} → r ≡ assignmentAnswer v a → assignmentNumber r ≡ verdictNumber v
-unfolding assignmentNumber
-assignment-number Accepted a e = rw e
-assignment-number (Refused why) a e = rw e
+  pub partner-refused : {v : Verdict} {why : Refusal} → v ≡ sought → v ≡ Refused why → partnerCallWith (partner-answer.Refused why) l ≡ partnerCall boxes tracks cost threshold l
+  unfolding partnerCall
+  partner-refused e f = rw (sym e ∙ f)
 
-module _ (boxes tracks : ℕ) (cost : List Float) (threshold : Float) (pairBoxes pairTracks : List ℕ) (work : List Float) where
-  match-facts : matchVerdict boxes tracks (length cost) (length pairBoxes) (length pairTracks) (length work) ≡ Accepted → OneToOne boxes tracks (matchDetections cost boxes tracks threshold)
-  match-facts e =
-      let sides = match-ready boxes tracks (length cost) (length pairBoxes) (length pairTracks) (length work) e .sides in
-      one-to-one cost boxes tracks threshold (sides .few-rows) (sides .few-cols)
+  pub partner-found : {k : Counts} {partner : List ℕ} {work : List Float} → sought ≡ Accepted → Partnered cost boxes tracks threshold k partner → work ≡ zeroed (l .work)
+      → partnerCallWith (partner-answer.Found k) (partnerLentWith partner work) ≡ partnerCall boxes tracks cost threshold l
+  unfolding partnerCall
+  partner-found e w z = rw (e, w .counts, w .partners, z)
 
-  match-ends : {r : MatchAnswer} {pairBoxes′ pairTracks′ : List ℕ} {work′ : List Float}
-      → MatchLeaves (matchVerdict boxes tracks (length cost) (length pairBoxes) (length pairTracks) (length work)) (matchDetections cost boxes tracks threshold) pairBoxes pairTracks work r pairBoxes′ pairTracks′ work′
-      → MatchEnds boxes tracks cost threshold pairBoxes pairTracks work r pairBoxes′ pairTracks′ work′
-  match-ends l =
-      let n = match-number (matchVerdict boxes tracks (length cost) (length pairBoxes) (length pairTracks) (length work)) (matchDetections cost boxes tracks threshold) (l .answer) in
-      record { leaves = l; number-is = n; accepted = λ z. accepted-of _ (sym n ∙ z); facts = λ z. match-facts (accepted-of _ (sym n ∙ z)) }
+  -- for a caller that knows the sizes: it is not turned down
+  module _ (ready : PartnerReady boxes tracks (length cost) (length (l .partner)) (length (l .work))) (r : PartnerAnswer) {after : PartnerLent} (call : partnerCallWith r after ≡ partnerCall boxes tracks cost threshold l) where
+    accepted : sought ≡ Accepted
+    accepted = partner-accepted ready
 
-  pub match-refused : {v : Verdict} {why : Refusal} → v ≡ matchVerdict boxes tracks (length cost) (length pairBoxes) (length pairTracks) (length work) → v ≡ Refused why
-      → MatchEnds boxes tracks cost threshold pairBoxes pairTracks work (match-answer.Refused why) pairBoxes pairTracks work
-  match-refused e f = match-ends (rw (sym e ∙ f) (record { answer = refl; pair-boxes = refl; pair-tracks = refl; work-slice = refl }))
+    pub partner-not-refused : {why : Refusal} → r ≡ partner-answer.Refused why → ⊥
+    unfolding partnerCall
+    partner-not-refused {why} e = none why (ap (λ (c : Call Counts PartnerLent). c .number) (rw e at call) ∙ rw accepted)
+      where
+        none : (why : Refusal) → number why ≡ 0 → ⊥
+        none TooMany q = omega arith
+        none OtherSize q = omega arith
+        none TooShort q = omega arith
 
-  pub match-accepted : {v : Verdict} {r : MatchCounts} {pairBoxes′ pairTracks′ : List ℕ} {work′ : List Float} → v ≡ matchVerdict boxes tracks (length cost) (length pairBoxes) (length pairTracks) (length work) → v ≡ Accepted
-      → MatchDone (matchDetections cost boxes tracks threshold) pairBoxes pairTracks work r pairBoxes′ pairTracks′ work′
-      → MatchEnds boxes tracks cost threshold pairBoxes pairTracks work (match-answer.Matched r) pairBoxes′ pairTracks′ work′
-  match-accepted e f w = match-ends (rw (sym e ∙ f) (record { answer = ap match-answer.Matched (w .counts); pair-boxes = w .boxes-are; pair-tracks = w .tracks-are; work-slice = w .work-is }))
+    pub partners-are : {k : Counts} → r ≡ partner-answer.Found k → Partnered cost boxes tracks threshold k (after .partner)
+    unfolding partnerCall
+    partners-are {k} e =
+        record {
+          counts = ap (λ (c : Call Counts PartnerLent). c .counts) (rw e at call) ∙ rw accepted;
+          partners = ap (λ (c : Call Counts PartnerLent). c .lent .partner) call ∙ rw accepted;
+        }
 
-module _ (boxes tracks : ℕ) (iou cost : List Float) (threshold : Float) (pb pt dets trks : List ℕ) (work : List Float) where
-  assignment-facts : assignmentVerdict boxes tracks (length iou) (length cost) (length pb) (length pt) (length dets) (length trks) (length work) ≡ Accepted → Accounted iou boxes tracks threshold (linearAssignment iou cost boxes tracks threshold)
-  assignment-facts e =
-      let ready = assignment-ready boxes tracks (length iou) (length cost) (length pb) (length pt) (length dets) (length trks) (length work) e in
-      accounted iou cost boxes tracks threshold (ready .few-rows) (ready .few-cols)
+    pub partners-clear : after .work ≡ zeroed (l .work)
+    unfolding partnerCall
+    partners-clear = ap (λ (c : Call Counts PartnerLent). c .lent .work) call ∙ rw accepted
 
-  assignment-ends : {r : AssignmentAnswer} {pb′ pt′ dets′ trks′ : List ℕ} {work′ : List Float}
-      → AssignmentLeaves (assignmentVerdict boxes tracks (length iou) (length cost) (length pb) (length pt) (length dets) (length trks) (length work))
-      (linearAssignment iou cost boxes tracks threshold) pb pt dets trks work r pb′ pt′ dets′ trks′ work′
-      → AssignmentEnds boxes tracks iou cost threshold pb pt dets trks work r pb′ pt′ dets′ trks′ work′
-  assignment-ends l =
-      let n = assignment-number (assignmentVerdict boxes tracks (length iou) (length cost) (length pb) (length pt) (length dets) (length trks) (length work)) (linearAssignment iou cost boxes tracks threshold) (l .answer) in
-      record { leaves = l; number-is = n; accepted = λ z. accepted-of _ (sym n ∙ z); facts = λ z. assignment-facts (accepted-of _ (sym n ∙ z)) }
+module _ (boxes tracks : ℕ) (cost : List Float) (threshold : Float) (l : MatchLent) where
+  abbrev verdict : Verdict
+  verdict = matchVerdict boxes tracks (length cost) (length (l .pairBoxes)) (length (l .pairTracks)) (length (l .work))
 
-  pub assignment-refused : {v : Verdict} {why : Refusal} → v ≡ assignmentVerdict boxes tracks (length iou) (length cost) (length pb) (length pt) (length dets) (length trks) (length work) → v ≡ Refused why
-      → AssignmentEnds boxes tracks iou cost threshold pb pt dets trks work (assignment-answer.Refused why) pb pt dets trks work
-  assignment-refused e f =
-      assignment-ends (rw (sym e ∙ f) (record { answer = refl; pair-boxes = refl; pair-tracks = refl; unmatched-detections = refl; unmatched-tracks = refl; work-slice = refl }))
+  abbrev value : Matched
+  value = matchDetections cost boxes tracks threshold
 
-  pub assignment-accepted : {v : Verdict} {r : AssignmentCounts} {pb′ pt′ dets′ trks′ : List ℕ} {work′ : List Float} → v ≡ assignmentVerdict boxes tracks (length iou) (length cost) (length pb) (length pt) (length dets) (length trks) (length work) → v ≡ Accepted
-      → AssignmentDone (linearAssignment iou cost boxes tracks threshold) pb pt dets trks work r pb′ pt′ dets′ trks′ work′
-      → AssignmentEnds boxes tracks iou cost threshold pb pt dets trks work (assignment-answer.Assigned r) pb′ pt′ dets′ trks′ work′
-  assignment-accepted e f w = assignment-ends (rw (sym e ∙ f) (record {
-    answer = ap assignment-answer.Assigned (w .counts);
-    pair-boxes = w .pair-boxes;
-    pair-tracks = w .pair-tracks;
-    unmatched-detections = w .left-boxes;
-    unmatched-tracks = w .left-tracks;
-    work-slice = w .work-is;
-  }))
+  pub match-refused : {v : Verdict} {why : Refusal} → v ≡ verdict → v ≡ Refused why → matchCallWith (match-answer.Refused why) l ≡ matchCall boxes tracks cost threshold l
+  unfolding matchCall
+  match-refused e f = rw (sym e ∙ f)
+
+  pub match-accepted : verdict ≡ Accepted → matchCallWith (match-answer.Matched (matchCounts value)) (matchLentAfter value l) ≡ matchCall boxes tracks cost threshold l
+  unfolding matchCall
+  match-accepted e = rw e

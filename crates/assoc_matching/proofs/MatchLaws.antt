@@ -3,8 +3,8 @@ use mathlib.Core.Path.{_≡_, refl, sym, ap, _∙_}
 use mathlib.Core.List.{List, [], map}
 use mathlib.Core.Bool.{Bool, true, false, cond, _&&_, _||_}
 use mathlib.Core.Logic.{⊎-elim}
-use Prim.Native.Nat.{ℕ, _≤_, _<_, zero-le}
-use native.Mathlib.Nat.{le-refl, le-trans}
+use Prim.Native.Nat.{ℕ, _≤_, _<_, zero-le, max}
+use native.Mathlib.Nat.{le-refl, le-trans, le-max-left, le-max-right, max-le}
 use native.Mathlib.Omega.{arith}
 use lib.Dec.{ltb, leb, eqb}
 use lib.Ieee.{Float}
@@ -15,12 +15,12 @@ use Rattle.laws.specs.Tab.{indices}
 use Rattle.laws.specs.Sieve.{sieve, maybe}
 use Rattle.laws.specs.Joined.{joined-none, joined-ext, joined-nil, joined-cut}
 use Rattle.laws.specs.Count.{bit-le, count-few, count-is, count-mono}
-use Rattle.laws.specs.Most.{most, most-least, greater, greater-left, greater-right, greater-least, low-at}
-use Rattle.laws.specs.Last.{last, last-hit, sieve-last}
+use Rattle.laws.specs.Most.{most, most-least, low-at}
+use Rattle.laws.specs.Last.{lastWhere, last-hit, sieve-last}
 use Rattle.lapjv_definition.specs.Bounds.{Bounds, Paired}
 use Rattle.lapjv_definition.proofs.Theorem.{bounds}
 use Rattle.assoc_matching.specs.Matching.{pair, mask, rowSum, colSum, simple, simpleMatches, costVec, extract, extracted, isErr, matched, matchDetections}
-use Rattle.assoc_matching.specs.PrivateMatching.{pairsOf, column, solution, countsOf, partnerOf, countsFor}
+use Rattle.assoc_matching.specs.Partners.{pairsOf, column, solution, countsOf, partnerOf, countsFor}
 use Rattle.assoc_matching.proofs.PairLaws.{paired, no-column, map-maybe, Apart}
 use Rattle.assoc_matching.proofs.SquareLaws.{no-error}
 
@@ -35,17 +35,17 @@ module _ (cost : List Float) (n m : ℕ) (t : Float) where
   unfolding simple
   cols-low e = low-at (colSum cost n m t) 1 m (and-right (leb (most (rowSum cost m t) n) 1) (leb (most (colSum cost n m t) m) 1) e)
 
-  simple-pairs : simple cost n m t ≡ true → simpleMatches cost n m t ≡ pairsOf m (λ i. last (mask cost m t i) m m) n
+  simple-pairs : simple cost n m t ≡ true → simpleMatches cost n m t ≡ pairsOf m (λ i. lastWhere (mask cost m t i) m m) n
   unfolding simpleMatches pairsOf
   simple-pairs e =
-      joined-ext (λ i. map (pair i) (sieve (mask cost m t i) (indices m))) (λ i. paired m i (last (mask cost m t i) m m)) n
-      (λ (i : ℕ) (h : i < n). ap (map (pair i)) (sieve-last (mask cost m t i) m m (le-refl m) (rows-low e i h)) ∙ map-maybe (pair i) (ltb (last (mask cost m t i) m m) m) (last (mask cost m t i) m m))
+      joined-ext (λ i. map (pair i) (sieve (mask cost m t i) (indices m))) (λ i. paired m i (lastWhere (mask cost m t i) m m)) n
+      (λ (i : ℕ) (h : i < n). ap (map (pair i)) (sieve-last (mask cost m t i) m m (le-refl m) (rows-low e i h)) ∙ map-maybe (pair i) (ltb (lastWhere (mask cost m t i) m m) m) (lastWhere (mask cost m t i) m m))
 
-  apart-simple : simple cost n m t ≡ true → Apart m (λ i. last (mask cost m t i) m m) n
+  apart-simple : simple cost n m t ≡ true → Apart m (λ i. lastWhere (mask cost m t i) m m) n
   apart-simple e k h =
       le-trans
-      (count-mono (λ i. eqb k (last (mask cost m t i) m m)) (λ i. mask cost m t i k) n (λ (i : ℕ) (l : i < n) q.
-      let s : k ≡ last (mask cost m t i) m m = eqb-true k (last (mask cost m t i) m m) q in rw s (last-hit (mask cost m t i) m m (le-refl m) (rw (sym s) h))))
+      (count-mono (λ i. eqb k (lastWhere (mask cost m t i) m m)) (λ i. mask cost m t i k) n (λ (i : ℕ) (l : i < n) q.
+      let s : k ≡ lastWhere (mask cost m t i) m m = eqb-true k (lastWhere (mask cost m t i) m m) q in rw s (last-hit (mask cost m t i) m m (le-refl m) (rw (sym s) h))))
       (cols-low e k h)
 
   -- its test holds where there is nothing to pair
@@ -68,12 +68,12 @@ module _ (cost : List Float) (n m : ℕ) (t : Float) where
       both {a} {b} h l = rw (le-leb a 1 h, le-leb b 1 l)
 
   -- where it fails there is a square
-  pub some-side : simple cost n m t ≡ false → 1 ≤ greater n m
+  pub some-side : simple cost n m t ≡ false → 1 ≤ max n m
   some-side e = by-cases (eqb n 0) refl
     where
-      by-cases : (a : Bool) → eqb n 0 ≡ a → 1 ≤ greater n m
+      by-cases : (a : Bool) → eqb n 0 ≡ a → 1 ≤ max n m
       by-cases true p = absurd (true-not-false (sym (simple-none (rw p)) ∙ e))
-      by-cases false p = let z : n ≡ 0 → ⊥ = eqb-false n 0 p in le-trans (positive n z) (greater-left n m)
+      by-cases false p = let z : n ≡ 0 → ⊥ = eqb-false n 0 p in le-trans (positive n z) (le-max-left n m)
         where
           positive : (k : ℕ) → (k ≡ 0 → ⊥) → 1 ≤ k
           positive k z = omega arith
@@ -104,8 +104,8 @@ extracted-pairs x big n m h l =
     ∙ joined-ext (λ i. extract big n m i (getD x i 0)) (λ i. paired m i (column m (getD x i 0))) n (λ (i : ℕ) (q : i < n). extract-row big n m i (getD x i 0) l q)
 
 -- what lapjv's theorem says of the square
-pub square-bounds : (cost : List Float) (n m : ℕ) → 1 ≤ greater n m → Bounds (greater n m) (costVec cost n m (greater n m))
-square-bounds cost n m some = bounds (greater n m) (costVec cost n m (greater n m)) some
+pub square-bounds : (cost : List Float) (n m : ℕ) → 1 ≤ max n m → Bounds (max n m) (costVec cost n m (max n m))
+square-bounds cost n m some = bounds (max n m) (costVec cost n m (max n m)) some
 
 column-is : (m k j : ℕ) → k < m → k ≡ column m j → j ≡ k
 column-is m k j h e = by-cases (ltb j m) e
@@ -117,13 +117,13 @@ column-is m k j h e = by-cases (ltb j m) e
         itself : (a b : ℕ) → a < b → a ≡ b → ⊥
         itself a b h e = omega arith
 
-apart-solved : (n m : ℕ) (x y : List ℕ) → Paired (greater n m) x y → Apart m (λ i. column m (getD x i 0)) n
+apart-solved : (n m : ℕ) (x y : List ℕ) → Paired (max n m) x y → Apart m (λ i. column m (getD x i 0)) n
 apart-solved n m x y w k h =
     let i₀ : ℕ = getD y k 0 in
     le-trans
     (count-mono (λ i. eqb k (column m (getD x i 0))) (λ i. eqb (getD y k 0) i) n (λ (i : ℕ) (l : i < n) q.
     let e : getD x i 0 ≡ k = column-is m k (getD x i 0) h (eqb-true k (column m (getD x i 0)) q) in
-    eq-eqb (getD y k 0) i (ap (λ (a : ℕ). getD y a 0) (sym e) ∙ w .rows i (le-trans l (greater-left n m)) .1)))
+    eq-eqb (getD y k 0) i (ap (λ (a : ℕ). getD y a 0) (sym e) ∙ w .rows i (le-trans l (le-max-left n m)) .1)))
     (rw (count-is (getD y k 0) n) (bit-le (ltb (getD y k 0) n)))
 
 -- ---- both
@@ -145,22 +145,22 @@ module _ (cost : List Float) (n m : ℕ) (t : Float) (few-rows : n ≤ 255) (few
       by-cases : (b : Bool) → (eqb n 0 || eqb m 0) ≡ b → (s : Bool) → simple cost n m t ≡ s
           → cond b (matched [] 0 0)
           (cond s (matched (simpleMatches cost n m t) 0 0)
-          (cond (isErr (greater n m) (costVec cost n m (greater n m))) (matched [] 0 0) (matched (extracted (solution cost n m .x) (greater n m) n m) (solution cost n m .turns) (solution cost n m .scans))))
-          ≡ matched (pairsOf m (λ i. cond s (last (mask cost m t i) m m) (column m (getD (solution cost n m .x) i 0))) n)
+          (cond (isErr (max n m) (costVec cost n m (max n m))) (matched [] 0 0) (matched (extracted (solution cost n m .x) (max n m) n m) (solution cost n m .turns) (solution cost n m .scans))))
+          ≡ matched (pairsOf m (λ i. cond s (lastWhere (mask cost m t i) m m) (column m (getD (solution cost n m .x) i 0))) n)
           (cond s (record { turns = 0; scans = 0 }) (countsOf (solution cost n m)) .turns) (cond s (record { turns = 0; scans = 0 }) (countsOf (solution cost n m)) .scans)
-      by-cases true e true f = rw (pairs-none n m (λ i. last (mask cost m t i) m m) e)
+      by-cases true e true f = rw (pairs-none n m (λ i. lastWhere (mask cost m t i) m m) e)
       by-cases true e false f = absurd (true-not-false (sym (simple-none cost n m t e) ∙ f))
       by-cases false e true f = rw (simple-pairs cost n m t f)
       by-cases false e false f =
           rw (
-            no-error cost n m (greater n m) (some-side cost n m t f) (greater-least n m 255 few-rows few-cols),
-            extracted-pairs (solution cost n m .x) (greater n m) n m (greater-left n m) (greater-right n m),
+            no-error cost n m (max n m) (some-side cost n m t f) (max-le few-rows few-cols),
+            extracted-pairs (solution cost n m .x) (max n m) n m (le-max-left n m) (le-max-right n m),
           )
 
   -- no column is that of two rows
   pub apart : Apart m (partnerOf cost n m t) n
   apart = by-cases (simple cost n m t) refl
     where
-      by-cases : (v : Bool) → simple cost n m t ≡ v → Apart m (λ i. cond v (last (mask cost m t i) m m) (column m (getD (solution cost n m .x) i 0))) n
+      by-cases : (v : Bool) → simple cost n m t ≡ v → Apart m (λ i. cond v (lastWhere (mask cost m t i) m m) (column m (getD (solution cost n m .x) i 0))) n
       by-cases true e = apart-simple cost n m t e
       by-cases false e = apart-solved n m (solution cost n m .x) (solution cost n m .y) (square-bounds cost n m (some-side cost n m t e) .pairs)

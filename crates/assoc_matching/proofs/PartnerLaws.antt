@@ -2,18 +2,19 @@
 use mathlib.Core.Path.{_≡_, refl, sym, ap, _∙_}
 use mathlib.Core.List.{List}
 use mathlib.Core.Bool.{Bool, true, false}
-use Prim.Native.Nat.{ℕ, _*_, _≤_, _<_}
-use native.Mathlib.Nat.{le-trans}
+use Prim.Native.Nat.{ℕ, _*_, _≤_, _<_, max, min}
+use native.Mathlib.Nat.{le-trans, le-min}
 use lib.Ieee.{Float}
 use lib.ListN.{length, getD, length-map}
 use Rattle.laws.specs.Tab.{tab-ext}
-use Rattle.laws.specs.Most.{greater, lesser, lesser-greatest}
-use Rattle.laws.specs.Last.{last}
+use Rattle.laws.specs.Last.{lastWhere}
 use Rattle.laws.specs.Occurs.{occurs-few}
 use Rattle.lapjv.specs.declared.Counts.{Counts}
 use Rattle.assoc_matching.specs.Matching.{Pair, boxesOf, tracksOf, mask, simple, Matched, matchDetections}
-use Rattle.assoc_matching.specs.Answers.{zeroed}
-use Rattle.assoc_matching.specs.PrivateMatching.{pairsOf, held, column, solution, partnerOf, Direct, Whole, Solution, Partnered, PairRoom, Wrote, MatchDone}
+use Rattle.assoc_matching.specs.declared.matching.MatchAnswer.the-variants.{Matched as Found}
+use Rattle.assoc_matching.specs.Answers.{zeroed, MatchLent, matchLentWith, matchLentAfter, matchCounts, matchCallWith}
+use Rattle.assoc_matching.specs.Partners.{pairsOf, held, column, solution, partnerOf, PairRoom, Wrote, Partnered}
+use Rattle.assoc_matching.specs.Private.{Direct, Whole, Solution}
 use Rattle.assoc_matching.proofs.PairLaws.{wrote-many, held-is, boxes-once, tracks-once}
 use Rattle.assoc_matching.proofs.MatchLaws.{some-side, match-is, apart}
 
@@ -21,7 +22,7 @@ module _ (cost : List Float) (n m : ℕ) (t : Float) where
   pub partnered-direct : {r : Bool} {partner : List ℕ} → Direct cost n m t r partner → r ≡ true → Partnered cost n m t (record { turns = 0; scans = 0 }) partner
   partnered-direct d e =
       let s : simple cost n m t ≡ true = sym (d .answer) ∙ e in
-      record { counts = rw s; partners = d .partners e ∙ tab-ext (λ i. last (mask cost m t i) m m) (partnerOf cost n m t) n (λ (i : ℕ) (h : i < n). rw s) }
+      record { counts = rw s; partners = d .partners e ∙ tab-ext (λ i. lastWhere (mask cost m t i) m m) (partnerOf cost n m t) n (λ (i : ℕ) (h : i < n). rw s) }
 
   pub partnered-solved : {b : Bool} {r : Counts} {partner partner′ : List ℕ} → Direct cost n m t b partner → b ≡ false → Solution cost n m r partner′ → Partnered cost n m t r partner′
   partnered-solved d e w =
@@ -29,10 +30,10 @@ module _ (cost : List Float) (n m : ℕ) (t : Float) where
       record { counts = w .counts ∙ rw s; partners = w .partners ∙ tab-ext (λ i. column m (getD (solution cost n m .x) i 0)) (partnerOf cost n m t) n (λ (i : ℕ) (h : i < n). rw s) }
 
   -- where the direct path is not taken there is a square
-  pub whole-is : {side work : ℕ} {b : Bool} {partner : List ℕ} → Direct cost n m t b partner → b ≡ false → side ≡ greater n m → work ≡ side * side → Whole n m side work side side
+  pub whole-is : {side work : ℕ} {b : Bool} {partner : List ℕ} → Direct cost n m t b partner → b ≡ false → side ≡ max n m → work ≡ side * side → Whole n m side work side side
   whole-is d e f l = record { side = f; some = rw f (some-side cost n m t (sym (d .answer) ∙ e)); long = l; long-x = refl; long-y = refl }
 
-pub cells-in : (n m : ℕ) {side work : ℕ} → side ≡ greater n m → greater n m * greater n m ≤ work → side * side ≤ work
+pub cells-in : (n m : ℕ) {side work : ℕ} → side ≡ max n m → max n m * max n m ≤ work → side * side ≤ work
 cells-in n m e h = rw e h
 
 module _ (cost : List Float) (n m : ℕ) (t : Float) (few-rows : n ≤ 255) (few-cols : m ≤ 255) where
@@ -50,7 +51,7 @@ module _ (cost : List Float) (n m : ℕ) (t : Float) (few-rows : n ≤ 255) (few
   scans-are w = ap (λ (k : Counts). k .scans) (w .counts) ∙ sym (ap (λ (a : Matched). a .scans) (match-is cost n m t few-rows few-cols))
 
   -- there are no more of them than the smaller side
-  pub matches-few : length (matchDetections cost n m t .matches) ≤ lesser n m
+  pub matches-few : length (matchDetections cost n m t .matches) ≤ min n m
   matches-few =
       let ps : List Pair = pairsOf m (partnerOf cost n m t) n in
       let b : length (pairsOf m (partnerOf cost n m t) n) ≤ n =
@@ -58,14 +59,16 @@ module _ (cost : List Float) (n m : ℕ) (t : Float) (few-rows : n ≤ 255) (few
       let k : length (pairsOf m (partnerOf cost n m t) n) ≤ m =
       rw (← length-map (pairsOf m (partnerOf cost n m t) n) (λ (p : Pair). p .track))
       (occurs-few (tracksOf (pairsOf m (partnerOf cost n m t) n)) m (λ (k : ℕ). tracks-once m (partnerOf cost n m t) n k (apart cost n m t few-rows few-cols))) in
-      rw matches-are (lesser-greatest n m _ b k)
+      rw matches-are (le-min b k)
 
-  pub matches-room : {r : Counts} {partner : List ℕ} {a b : ℕ} → Partnered cost n m t r partner → lesser n m ≤ a → lesser n m ≤ b → PairRoom (held m partner) a b
+  pub matches-room : {r : Counts} {partner : List ℕ} {a b : ℕ} → Partnered cost n m t r partner → min n m ≤ a → min n m ≤ b → PairRoom (held m partner) a b
   matches-room w h l = rw (held-matches w) (record { boxes-fit = le-trans matches-few h; tracks-fit = le-trans matches-few l })
 
-  pub match-done : {r : Counts} {partner boxes₀ tracks₀ boxes tracks : List ℕ} {work₀ work : List Float} {k : ℕ} → Partnered cost n m t r partner
-      → Wrote (held m partner) boxes₀ tracks₀ k boxes tracks → work ≡ zeroed work₀
-      → MatchDone (matchDetections cost n m t) boxes₀ tracks₀ work₀ (record { pairs = k; turns = r .turns; scans = r .scans }) boxes tracks work
-  match-done {r} {partner} {boxes₀} {tracks₀} {boxes} {tracks} {work₀} {work} {k} w o z =
-      let q : Wrote (matchDetections cost n m t .matches) boxes₀ tracks₀ k boxes tracks = rw (held-matches w) at o in
-      record { counts = rw (wrote-many q, turns-are w, scans-are w); boxes-are = q .boxes-are .cells; tracks-are = q .tracks-are .cells; work-is = z }
+  -- written to lent memory, with the work slice cleared
+  pub match-done : (l : MatchLent) {r : Counts} {partner boxes tracks : List ℕ} {work : List Float} {k : ℕ} → Partnered cost n m t r partner
+      → Wrote (held m partner) (l .pairBoxes) (l .pairTracks) k boxes tracks → work ≡ zeroed (l .work)
+      → matchCallWith (Found (record { pairs = k; turns = r .turns; scans = r .scans })) (matchLentWith boxes tracks work)
+      ≡ matchCallWith (Found (matchCounts (matchDetections cost n m t))) (matchLentAfter (matchDetections cost n m t) l)
+  match-done l {r} {partner} {boxes} {tracks} {work} {k} w o z =
+      let q : Wrote (matchDetections cost n m t .matches) (l .pairBoxes) (l .pairTracks) k boxes tracks = rw (held-matches w) at o in
+      rw (wrote-many q, turns-are w, scans-are w, q .boxes-are .cells, q .tracks-are .cells, z)

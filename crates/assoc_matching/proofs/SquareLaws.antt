@@ -2,17 +2,16 @@
 use mathlib.Core.Path.{_≡_, refl, sym, ap, _∙_}
 use mathlib.Core.List.{List, append-nil}
 use mathlib.Core.Bool.{false}
-use Prim.Native.Nat.{ℕ, _*_, _≤_, _<_}
+use Prim.Native.Nat.{ℕ, _*_, _≤_, _<_, max}
+use native.Mathlib.Nat.{max-le}
 use native.Mathlib.Omega.{arith}
 use lib.Ieee.{Float}
 use lib.ListN.{length, getD}
 use lib.Seq.{drop-length}
-use borrow.Author.Tests.{le-ltb, eq-eqb, ne-eqb}
 use Rattle.laws.specs.Tab.{tab, length-tab, tab-ext, indices}
 use Rattle.laws.specs.Laid.{rows, laid, length-rows}
 use Rattle.laws.specs.Joined.{joined}
 use Rattle.laws.specs.Packed.{packed}
-use Rattle.laws.specs.Most.{greater, greater-least}
 use Rattle.lapjv.specs.Answers.{Answered, verdictOf, answerFor, lentAfter as slice}
 use Rattle.lapjv_definition.specs.Lapjv.{lapjv}
 use Rattle.lapjv_definition.proofs.Theorem.{bounds}
@@ -22,8 +21,10 @@ use Rattle.lapjv.specs.declared.Verdict.the-variants.{Fits}
 use Rattle.lapjv.specs.declared.Answer.{Answer}
 use Rattle.lapjv.specs.declared.Answer.the-variants.{Assigned, Refused}
 use Rattle.lapjv.specs.declared.Counts.{Counts}
+use Rattle.lapjv.proofs.AnswerLaws.{all-fit}
 use Rattle.assoc_matching.specs.Matching.{costCell, costVec, isErr}
-use Rattle.assoc_matching.specs.PrivateMatching.{Sized, Whole, Solution, solution, countsOf, column}
+use Rattle.assoc_matching.specs.Partners.{Sized, solution, countsOf, column}
+use Rattle.assoc_matching.specs.Private.{Whole, Solution}
 
 module _ (cost : List Float) (nrows ncols n : ℕ) where
   -- the rows that the loop has stored
@@ -36,20 +37,16 @@ module _ (cost : List Float) (nrows ncols n : ℕ) where
   square-long = length-rows (λ i. tab (costCell cost nrows ncols i) n) n (λ (i : ℕ). length-tab (costCell cost nrows ncols i) n) (indices n) ∙ rw (length-tab (λ i. i) n)
 
 -- lapjv turns no such square down
-fitting : (n costs xs ys : ℕ) → 1 ≤ n → n ≤ 255 → costs ≡ n * n → xs ≡ n → ys ≡ n → verdictOf n costs xs ys ≡ Fits
-unfolding verdictOf
-fitting n costs xs ys some few e f g = rw (ne-eqb n 0 (λ (z : n ≡ 0). none n some z), le-ltb 255 n few, eq-eqb costs (n * n) e, eq-eqb xs n f, eq-eqb ys n g)
-  where
-    none : (k : ℕ) → 1 ≤ k → k ≡ 0 → ⊥
-    none k h z = omega arith
+square-fits : (n costs xs ys : ℕ) → 1 ≤ n → n ≤ 255 → costs ≡ n * n → xs ≡ n → ys ≡ n → verdictOf n costs xs ys ≡ Fits
+square-fits n costs xs ys some few e f g = all-fit n costs xs ys (λ (z : n ≡ 0). omega arith) few e f g
 
 pub no-error : (cost : List Float) (nrows ncols n : ℕ) → 1 ≤ n → n ≤ 255 → isErr n (costVec cost nrows ncols n) ≡ false
 unfolding isErr
 no-error cost nrows ncols n some few =
-    rw (fitting n (length (costVec cost nrows ncols n)) n n some few (square-long cost nrows ncols n) refl refl, bounds n (costVec cost nrows ncols n) some .no-error)
+    rw (square-fits n (length (costVec cost nrows ncols n)) n n some few (square-long cost nrows ncols n) refl refl, bounds n (costVec cost nrows ncols n) some .no-error)
 
-pub side-few : {nrows ncols cells n : ℕ} → Sized nrows ncols cells → n ≡ greater nrows ncols → n ≤ 255
-side-few {nrows} {ncols} s e = rw e (greater-least nrows ncols 255 (s .few-rows) (s .few-cols))
+pub side-few : {nrows ncols cells n : ℕ} → Sized nrows ncols cells → n ≡ max nrows ncols → n ≤ 255
+side-few {nrows} {ncols} s e = rw e (max-le (s .few-rows) (s .few-cols))
 
 -- what lapjv answers of the square
 pub record Got (cost : List Float) (nrows ncols : ℕ) (r : Answer) (x : List ℕ) : Type 0 where
@@ -61,7 +58,7 @@ pub got : (cost : List Float) (nrows ncols : ℕ) {n cells wl : ℕ} {w : List F
 unfolding answerFor slice
 got cost nrows ncols {n} {cells} {wl} {w} {x₀} {y₀} {x} {y} {r} s h e q =
     let long : length w ≡ n * n = ap length e ∙ square-long cost nrows ncols n in
-    let z : verdictOf n (length w) (length x₀) (length y₀) ≡ Fits = fitting n (length w) (length x₀) (length y₀) (h .some) (side-few s (h .side)) long (h .long-x) (h .long-y) in
+    let z : verdictOf n (length w) (length x₀) (length y₀) ≡ Fits = square-fits n (length w) (length x₀) (length y₀) (h .some) (side-few s (h .side)) long (h .long-x) (h .long-y) in
     record {
       counts = q .answer ∙ ap (answerFor n w) z ∙ rw (e, h .side);
       rows-are = q .xs ∙ ap (λ (k : Verdict). slice k (lapjv n w .x) x₀) z ∙ rw (e, h .side);

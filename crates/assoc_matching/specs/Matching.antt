@@ -2,16 +2,16 @@
 use mathlib.Core.Path.{_≡_, refl}
 use mathlib.Core.List.{List, [], map}
 use mathlib.Core.Bool.{Bool, true, false, cond, _&&_, _||_}
-use Prim.Native.Nat.{ℕ, _+_, _*_}
+use Prim.Native.Nat.{ℕ, _+_, _*_, max}
 use lib.Dec.{ltb, leb, eqb}
 use lib.IntN.{pos}
-use lib.Ieee.{Float, nan, binary64, sub, mul, neg, lt, ofBits, ofInt}
+use lib.Ieee.{Float, nan, binary64, sub, mul, neg, lt, ofBits, ofInt, round}
 use lib.ListN.{length, getD}
 use Rattle.laws.specs.Tab.{tab, indices}
 use Rattle.laws.specs.Sieve.{sieve, maybe}
 use Rattle.laws.specs.Joined.{joined}
-use Rattle.laws.specs.Count.{count}
-use Rattle.laws.specs.Most.{most, greater}
+use Rattle.laws.specs.Count.{countWhere}
+use Rattle.laws.specs.Most.{most}
 use Rattle.lapjv_definition.specs.Lapjv.{lapjv}
 use Rattle.lapjv.specs.Answers.{verdictOf}
 use Rattle.lapjv.specs.declared.Verdict.{Verdict}
@@ -41,10 +41,10 @@ mask cost ncols threshold i j = above cost threshold (i * ncols) j
 
 -- row_sums[i] and col_sums[j]. They are u8 in the Rust, which at most 255 rows and columns never overflow.
 abbrev pub rowSum : List Float → ℕ → Float → ℕ → ℕ
-rowSum cost ncols threshold i = count (mask cost ncols threshold i) ncols
+rowSum cost ncols threshold i = countWhere (mask cost ncols threshold i) ncols
 
 abbrev pub colSum : List Float → ℕ → ℕ → Float → ℕ → ℕ
-colSum cost nrows ncols threshold j = count (λ i. mask cost ncols threshold i j) nrows
+colSum cost nrows ncols threshold j = countWhere (λ i. mask cost ncols threshold i j) nrows
 
 -- max_row_sum <= 1 && max_col_sum <= 1
 unfoldable pub simple : List Float → ℕ → ℕ → Float → Bool
@@ -57,17 +57,17 @@ simple cost nrows ncols threshold =
 unfoldable pub simpleMatches : List Float → ℕ → ℕ → Float → List Pair
 simpleMatches cost nrows ncols threshold = joined (λ i. map (pair i) (sieve (mask cost ncols threshold i) (indices ncols))) nrows
 
--- 1e6
+-- 1e6 and 1e-12, by their bits as the code has them
 abbrev pub largeCost : Float
 largeCost = ofBits binary64 0x412e_8480_0000_0000
 
-large-is : largeCost ≡ ofInt binary64 (pos 1000000)
-unfolding ofBits ofInt
-large-is = refl
-
--- the f64 that is nearest to 1e-12
 abbrev pub tieBreakEps : Float
 tieBreakEps = ofBits binary64 0x3d71_9799_812d_ea11
+
+-- and what they are: the whole number, and the f64 nearest to 1 / 10^12
+pub constants : (largeCost ≡ ofInt binary64 (pos 1000000)) × (tieBreakEps ≡ round binary64 false 1 1000000000000)
+unfolding ofBits ofInt round
+constants = (refl, refl)
 
 -- cost_vec[i][j]: the cost negated, which as f64 is the same number, less the tie break; large outside of the costs
 unfoldable pub costCell : List Float → ℕ → ℕ → ℕ → ℕ → Float
@@ -106,7 +106,7 @@ isErr n costs = unfit (verdictOf n (length costs) n n) || ltb 0 (lapjv n costs .
 
 unfoldable pub matchDetections : List Float → ℕ → ℕ → Float → Matched
 matchDetections cost nrows ncols threshold =
-    let n = greater nrows ncols in
+    let n = max nrows ncols in
     let costs = costVec cost nrows ncols n in
     let a = lapjv n costs in
     cond (eqb nrows 0 || eqb ncols 0) (matched [] 0 0)

@@ -2,21 +2,24 @@
 //
 // Both of the Rust's paths give a row at most one column, so inside the pairs are a list of bytes:
 // for each row its column, or ncols where it has none.
+use refusals::larger;
+use refusals::smaller;
 ghost use mathlib.Core.Path.{_≡_};
 ghost use mathlib.Core.Bool.{cond};
-ghost use Prim.Native.Nat.{_+_, _*_, _≤_, _<_};
-ghost use lib.Dec.{leb, ltb};
+ghost use Prim.Native.Nat.{_+_, _*_, _≤_, _<_, max};
+ghost use lib.Dec.{leb};
 ghost use lib.ListN.{length, getD};
 ghost use lib.Ieee.{lt};
 ghost use Rattle.laws.specs.Tab.{tab};
 ghost use Rattle.laws.specs.Count.{bit};
-ghost use Rattle.laws.specs.Most.{most, greater, lesser};
-ghost use Rattle.assoc_matching.specs.Matching.{above, costCell, costVec, matchDetections};
-ghost use Rattle.assoc_matching.specs.Answers.{zeroed, MatchEnds};
-ghost use Rattle.assoc_matching.specs.PrivateMatching.{column, held, Sized, RowIn, RowOut, Clean, Direct, Whole, Solution, Partnered, Put, PairRoom, Wrote, MatchReady, MatchDone};
-use crate::assignment::assignment_verdict;
-use assoc_similarity::Refusal;
-use assoc_similarity::Verdict;
+ghost use Rattle.laws.specs.Most.{most};
+ghost use Rattle.assoc_matching.specs.declared.matching.MatchAnswer.the-variants.{Matched};
+ghost use Rattle.assoc_matching.specs.Matching.{pair, above, costCell, costVec, matchDetections};
+ghost use Rattle.assoc_matching.specs.Partners.{Sized, Clean, column, held, putting, Put, PairRoom, Wrote, Partnered};
+ghost use Rattle.assoc_matching.specs.Answers.{zeroed, partnerLentWith, partnerCallWith, partnerVerdict, partnerCall, matchLentWith, matchLentAfter, matchCounts, matchCallWith, matchVerdict, matchCall};
+ghost use Rattle.assoc_matching.specs.Private.{RowIn, RowOut, Direct, Whole, Solution, MatchReady};
+use refusals::Refusal;
+use refusals::Verdict;
 
 // The number of pairs, and of lapjv's row turns and column scans: both 0 on the direct path.
 pub struct MatchCounts {
@@ -30,22 +33,10 @@ pub enum MatchAnswer {
     Refused(Refusal),
 }
 
-pub fn larger(a: usize, b: usize) -> usize
-    ensures { λ r. ⌜ r ≡ greater a b ⌝ }
-{
-    if a < b {
-        return b;
-    }
-    a
-}
-
-pub(crate) fn smaller(a: usize, b: usize) -> usize
-    ensures { λ r. ⌜ r ≡ lesser a b ⌝ }
-{
-    if a < b {
-        return a;
-    }
-    b
+// The answer of find_partners: lapjv's counts alone.
+pub enum PartnerAnswer {
+    Found(lapjv::Counts),
+    Refused(Refusal),
 }
 
 // ---- the direct path
@@ -267,7 +258,7 @@ fn solve(
 // ---- both
 
 // For each row its column, or ncols; and lapjv's counts.
-pub(crate) fn find_partners(
+fn pair_rows(
     cost: &[f32],
     nrows: usize,
     ncols: usize,
@@ -276,7 +267,7 @@ pub(crate) fn find_partners(
     partner: &mut [u8],
 ) -> lapjv::Counts
     requires sides { ⌜ Sized nrows ncols (length (now cost)) ⌝ }
-    requires square { ⌜ greater nrows ncols * greater nrows ncols ≤ length (now work) ⌝ }
+    requires square { ⌜ max nrows ncols * max nrows ncols ≤ length (now work) ⌝ }
     requires rows { ⌜ length (now partner) ≡ nrows ⌝ }
     ensures { λ r. ⌜ Partnered (now (cost .entry)) nrows ncols threshold r (now (partner .exit)) ⌝ }
 {
@@ -288,7 +279,7 @@ pub(crate) fn find_partners(
     solve(cost, nrows, ncols, n, &mut work[..cells], partner)
 }
 
-pub(crate) fn clear(work: &mut [f64])
+fn clear(work: &mut [f64])
     ensures { λ _. ⌜ now (work .exit) ≡ zeroed (now (work .entry)) ⌝ }
 {
     let mut i = 0;
@@ -298,8 +289,51 @@ pub(crate) fn clear(work: &mut [f64])
     }
 }
 
-// Stores the pair i, j at place k, if j is a column; how many are stored then.
-pub(crate) fn put(
+fn partner_verdict(
+    boxes: usize,
+    tracks: usize,
+    costs: usize,
+    partners: usize,
+    work: usize,
+) -> Verdict
+    ensures { λ r. ⌜ r ≡ partnerVerdict boxes tracks costs partners work ⌝ }
+{
+    if (255 < boxes) | (255 < tracks) {
+        return Verdict::Refused(Refusal::TooMany);
+    }
+    if (costs != boxes * tracks) | (partners != boxes) {
+        return Verdict::Refused(Refusal::OtherSize);
+    }
+    let n = larger(boxes, tracks);
+    if work < n * n {
+        return Verdict::Refused(Refusal::TooShort);
+    }
+    Verdict::Accepted
+}
+
+// The pairs of match_detections with a byte for each box: its track, or `tracks` where it has none.
+pub fn find_partners(
+    boxes: usize,
+    tracks: usize,
+    cost: &[f32],
+    threshold: f32,
+    partner: &mut [u8],
+    work: &mut [f64],
+) -> PartnerAnswer
+    ensures { λ r. ⌜ partnerCallWith r (partnerLentWith (now (partner .exit)) (now (work .exit)))
+        ≡ partnerCall boxes tracks (now (cost .entry)) threshold (partnerLentWith (now (partner .entry)) (now (work .entry))) ⌝ }
+{
+    let verdict = partner_verdict(boxes, tracks, cost.len(), partner.len(), work.len());
+    if let Verdict::Refused(why) = verdict {
+        return PartnerAnswer::Refused(why);
+    }
+    let counts = pair_rows(cost, boxes, tracks, threshold, work, partner);
+    clear(work);
+    PartnerAnswer::Found(counts)
+}
+
+// Stores the pair i, j at place k, if j is a column and the slices have the place; how many are stored then.
+pub fn put_pair(
     boxes: &mut [usize],
     tracks: &mut [usize],
     k: usize,
@@ -307,10 +341,9 @@ pub(crate) fn put(
     j: usize,
     ncols: usize,
 ) -> usize
-    requires { ⌜ (j < ncols → (k < length (now boxes)) × (k < length (now tracks))) ⌝ }
-    ensures { λ r. ⌜ Put (ltb j ncols) k i j (now (boxes .entry)) (now (tracks .entry)) r (now (boxes .exit)) (now (tracks .exit)) ⌝ }
+    ensures { λ r. ⌜ Put (putting j ncols k (now (boxes .entry)) (now (tracks .entry))) k (pair i j) (now (boxes .entry)) (now (tracks .entry)) r (now (boxes .exit)) (now (tracks .exit)) ⌝ }
 {
-    if j < ncols {
+    if (j < ncols) & (k < boxes.len()) & (k < tracks.len()) {
         boxes[k] = i;
         tracks[k] = j;
         return k + 1;
@@ -326,7 +359,7 @@ fn write_pairs(partner: &[u8], ncols: usize, boxes: &mut [usize], tracks: &mut [
     let mut i = 0;
     while i < partner.len() {
         let j = partner[i] as usize;
-        k = put(boxes, tracks, k, i, j, ncols);
+        k = put_pair(boxes, tracks, k, i, j, ncols);
         i += 1;
     }
     k
@@ -334,6 +367,31 @@ fn write_pairs(partner: &[u8], ncols: usize, boxes: &mut [usize], tracks: &mut [
 
 // ---- match_detections
 
+fn match_verdict(
+    boxes: usize,
+    tracks: usize,
+    costs: usize,
+    pairs: usize,
+    partners: usize,
+    work: usize,
+) -> Verdict
+    ensures { λ r. ⌜ r ≡ matchVerdict boxes tracks costs pairs partners work ⌝ }
+{
+    if (255 < boxes) | (255 < tracks) {
+        return Verdict::Refused(Refusal::TooMany);
+    }
+    if costs != boxes * tracks {
+        return Verdict::Refused(Refusal::OtherSize);
+    }
+    let few = smaller(boxes, tracks);
+    let n = larger(boxes, tracks);
+    if (pairs < few) | (partners < few) | (work < n * n) {
+        return Verdict::Refused(Refusal::TooShort);
+    }
+    Verdict::Accepted
+}
+
+// No call of find_partners is refused here.
 fn match_with(
     cost: &[f32],
     nrows: usize,
@@ -343,18 +401,21 @@ fn match_with(
     tracks: &mut [usize],
     work: &mut [f64],
     partner: &mut [u8],
-) -> MatchCounts
+) -> MatchAnswer
     requires ready { ⌜ MatchReady nrows ncols (length (now cost)) (length (now boxes)) (length (now tracks)) (length (now work)) ⌝ }
     requires rows { ⌜ length (now partner) ≡ nrows ⌝ }
-    ensures { λ r. ⌜ MatchDone (matchDetections (now (cost .entry)) nrows ncols threshold) (now (boxes .entry)) (now (tracks .entry)) (now (work .entry)) r (now (boxes .exit)) (now (tracks .exit)) (now (work .exit)) ⌝ }
+    ensures { λ r. ⌜ (let a = matchDetections (now (cost .entry)) nrows ncols threshold in
+        matchCallWith r (matchLentWith (now (boxes .exit)) (now (tracks .exit)) (now (work .exit)))
+        ≡ matchCallWith (Matched (matchCounts a)) (matchLentAfter a (matchLentWith (now (boxes .entry)) (now (tracks .entry)) (now (work .entry))))) ⌝ }
 {
-    let counts = find_partners(cost, nrows, ncols, threshold, work, partner);
-    clear(work);
-    let pairs = write_pairs(partner, ncols, boxes, tracks);
-    MatchCounts {
-        pairs: pairs,
-        turns: counts.turns,
-        scans: counts.scans,
+    let answer = find_partners(nrows, ncols, cost, threshold, partner, work);
+    match answer {
+        PartnerAnswer::Refused(why) => MatchAnswer::Refused(why),
+        PartnerAnswer::Found(counts) => MatchAnswer::Matched(MatchCounts {
+            pairs: write_pairs(partner, ncols, boxes, tracks),
+            turns: counts.turns,
+            scans: counts.scans,
+        }),
     }
 }
 
@@ -369,26 +430,22 @@ pub fn match_detections(
     pair_tracks: &mut [usize],
     work: &mut [f64],
 ) -> MatchAnswer
-    ensures { λ r. ⌜ MatchEnds boxes tracks (now (cost .entry)) threshold (now («pair_boxes» .entry)) (now («pair_tracks» .entry)) (now (work .entry))
-        r (now («pair_boxes» .exit)) (now («pair_tracks» .exit)) (now (work .exit)) ⌝ }
+    ensures { λ r. ⌜ matchCallWith r (matchLentWith (now («pair_boxes» .exit)) (now («pair_tracks» .exit)) (now (work .exit)))
+        ≡ matchCall boxes tracks (now (cost .entry)) threshold (matchLentWith (now («pair_boxes» .entry)) (now («pair_tracks» .entry)) (now (work .entry))) ⌝ }
 {
-    // As linear_assignment's, for one matrix and with room for all that is left.
-    let verdict = assignment_verdict(
+    let verdict = match_verdict(
         boxes,
         tracks,
-        cost.len(),
         cost.len(),
         pair_boxes.len(),
         pair_tracks.len(),
-        boxes,
-        tracks,
         work.len(),
     );
     if let Verdict::Refused(why) = verdict {
         return MatchAnswer::Refused(why);
     }
     let mut partner = [0u8; 255];
-    let counts = match_with(
+    match_with(
         cost,
         boxes,
         tracks,
@@ -397,6 +454,5 @@ pub fn match_detections(
         pair_tracks,
         work,
         &mut partner[..boxes],
-    );
-    MatchAnswer::Matched(counts)
+    )
 }

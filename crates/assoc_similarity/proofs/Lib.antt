@@ -1,6 +1,4 @@
--- Laws has what upper layers want; the others are what the proofs of several functions cite.
-pub mod Laws
+-- What the proofs of several functions cite; of Verdicts, the crate above too.
 pub mod Verdicts
 pub mod Softmax
-pub mod CostLaws
 pub mod ShapeLaws

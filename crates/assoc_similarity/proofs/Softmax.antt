@@ -12,7 +12,7 @@ use Rattle.laws.specs.Fold.{fold, fold-more, fold-ext}
 use Rattle.laws.specs.Tab.{tab, filled, filled-at, filled-rest, length-tab, tab-at, tab-ext}
 use Rattle.laws.specs.Packed.{packed-kept}
 use Rattle.laws.specs.Grid.{cellAt, grid, grid-at, grid-over, grid-ext, row-ends, row-next}
-use Rattle.floats.specs.Single.{_⊕_, _⊖_, _⊘_, zero, one}
+use Rattle.floats.specs.Single.{_⊕_, _⊖_, _⊘_, plusZero, one}
 use Rattle.floats.specs.Exponential.{exp}
 use Rattle.floats.proofs.Unsigned.{exp-not-below}
 use Rattle.assoc_similarity.specs.Mahalanobis.{limit, exponential, normalized, similarity, mhDistSimilarity}
@@ -21,25 +21,25 @@ use Rattle.assoc_similarity.specs.Private.{expOf, summand, columnSum, sh
 -- ---- a cell
 
 -- the mark is below zero, and no exponential is
-marked : lt (neg one) zero ≡ true
+marked : lt (neg one) plusZero ≡ true
 unfolding lt neg ofBits
 marked = refl
 
 -- a marked cell adds the exponential of 0 over the temperature
-summand-is : (v temp : Float) → summand (expOf v temp) (exp (zero ⊘ temp)) ≡ exp (cond (lt limit v) zero (limit ⊖ v) ⊘ temp)
+summand-is : (v temp : Float) → summand (expOf v temp) (exp (plusZero ⊘ temp)) ≡ exp (cond (lt limit v) plusZero (limit ⊖ v) ⊘ temp)
 unfolding expOf summand
 summand-is v temp = by-test (lt limit v)
   where
-    by-test : (b : Bool) → cond (lt (cond b (neg one) (exp ((limit ⊖ v) ⊘ temp))) zero) (exp (zero ⊘ temp)) (cond b (neg one) (exp ((limit ⊖ v) ⊘ temp))) ≡ exp (cond b zero (limit ⊖ v) ⊘ temp)
+    by-test : (b : Bool) → cond (lt (cond b (neg one) (exp ((limit ⊖ v) ⊘ temp))) plusZero) (exp (plusZero ⊘ temp)) (cond b (neg one) (exp ((limit ⊖ v) ⊘ temp))) ≡ exp (cond b plusZero (limit ⊖ v) ⊘ temp)
     by-test true = rw marked
     by-test false = rw (exp-not-below ((limit ⊖ v) ⊘ temp))
 
 -- and has no share
-share-is : (v temp sum : Float) → share (expOf v temp) sum ≡ cond (eqb (cond (lt limit v) 0 1) 1) (exp (cond (lt limit v) zero (limit ⊖ v) ⊘ temp) ⊘ sum) zero
+share-is : (v temp sum : Float) → share (expOf v temp) sum ≡ cond (eqb (cond (lt limit v) 0 1) 1) (exp (cond (lt limit v) plusZero (limit ⊖ v) ⊘ temp) ⊘ sum) plusZero
 unfolding expOf share
 share-is v temp sum = by-test (lt limit v)
   where
-    by-test : (b : Bool) → cond (lt (cond b (neg one) (exp ((limit ⊖ v) ⊘ temp))) zero) zero (cond b (neg one) (exp ((limit ⊖ v) ⊘ temp)) ⊘ sum) ≡ cond (eqb (cond b 0 1) 1) (exp (cond b zero (limit ⊖ v) ⊘ temp) ⊘ sum) zero
+    by-test : (b : Bool) → cond (lt (cond b (neg one) (exp ((limit ⊖ v) ⊘ temp))) plusZero) plusZero (cond b (neg one) (exp ((limit ⊖ v) ⊘ temp)) ⊘ sum) ≡ cond (eqb (cond b 0 1) 1) (exp (cond b plusZero (limit ⊖ v) ⊘ temp) ⊘ sum) plusZero
     by-test true = rw marked
     by-test false = rw (exp-not-below ((limit ⊖ v) ⊘ temp))
 
@@ -54,7 +54,7 @@ pub record Summing (matrix : List Float) (beyond : Float) (n m i at : ℕ) (sums
   pub same : length sums ≡ m
 
 module _ {matrix : List Float} {beyond : Float} {n m : ℕ} {sums : List Float} where
-  pub sum-start : n * m ≤ length matrix → sums ≡ tab (λ _. zero) m → Summing matrix beyond n m 0 0 sums
+  pub sum-start : n * m ≤ length matrix → sums ≡ tab (λ _. plusZero) m → Summing matrix beyond n m 0 0 sums
   unfolding columnSum fold
   sum-start r e = record { room = r; upto = zero-le; place = sym (zero-mul m); cells = e; same = ap length e ∙ length-tab _ m }
 
@@ -70,7 +70,7 @@ module _ {matrix : List Float} {beyond : Float} {n m : ℕ} {sums : List Float} 
         (tab-ext _ _ m
         (λ j b. ap (λ (l : List Float). getD l j nan ⊕ summand (cellAt nan m matrix i j) beyond) (w .cells)
         ∙ ap (λ (x : Float). x ⊕ summand (cellAt nan m matrix i j) beyond) (tab-at _ m j nan b)
-        ∙ fold-more (λ sum k. sum ⊕ summand (cellAt nan m matrix k j) beyond) zero i)) in
+        ∙ fold-more (λ sum k. sum ⊕ summand (cellAt nan m matrix k j) beyond) plusZero i)) in
         record { room = w .room; upto = omega arith; place = ap (λ (k : ℕ). k + m) (w .place) ∙ sym (row-next i m); cells = added; same = ap length added ∙ length-tab _ m }
 
     pub sum-end : n ≤ i → sums ≡ tab (columnSum beyond (cellAt nan m matrix) n) m
@@ -82,14 +82,14 @@ module _ (temp : Float) (n m : ℕ) (l : List Float) where
   abbrev exps : List Float
   exps = grid (λ i j. expOf (cellAt nan m l i j) temp) n m l
 
-  sums-are : (j : ℕ) → j < m → columnSum (exp (zero ⊘ temp)) (cellAt nan m exps) n j ≡ normalized (cellAt nan m l) temp n j
+  sums-are : (j : ℕ) → j < m → columnSum (exp (plusZero ⊘ temp)) (cellAt nan m exps) n j ≡ normalized (cellAt nan m l) temp n j
   unfolding columnSum normalized
   sums-are j h =
-      fold-ext _ _ zero n
+      fold-ext _ _ plusZero n
       (λ sum i b. ap (λ (x : Float). sum ⊕ x)
-      (ap (λ (e : Float). summand e (exp (zero ⊘ temp))) (grid-at (λ i j. expOf (cellAt nan m l i j) temp) n m l nan i j b h) ∙ summand-is (cellAt nan m l i j) temp))
+      (ap (λ (e : Float). summand e (exp (plusZero ⊘ temp))) (grid-at (λ i j. expOf (cellAt nan m l i j) temp) n m l nan i j b h) ∙ summand-is (cellAt nan m l i j) temp))
 
-  cells-are : (sums : List Float) → sums ≡ tab (columnSum (exp (zero ⊘ temp)) (cellAt nan m exps) n) m → (i j : ℕ) → i < n → j < m → shares (cellAt nan m exps) sums i j ≡ mhDistSimilarity l temp n m i j
+  cells-are : (sums : List Float) → sums ≡ tab (columnSum (exp (plusZero ⊘ temp)) (cellAt nan m exps) n) m → (i j : ℕ) → i < n → j < m → shares (cellAt nan m exps) sums i j ≡ mhDistSimilarity l temp n m i j
   unfolding similarity
   cells-are sums e i j hi hj =
       ap (λ (x : Float). share x (getD sums j nan)) (grid-at (λ i j. expOf (cellAt nan m l i j) temp) n m l nan i j hi hj)
@@ -97,7 +97,7 @@ module _ (temp : Float) (n m : ℕ) (l : List Float) where
       ∙ share-is (cellAt nan m l i j) temp (normalized (cellAt nan m l) temp n j)
 
   -- the shares over the exponentials are the similarities
-  pub softmax : (out sums : List Float) (beyond : Float) → out ≡ exps → beyond ≡ exp (zero ⊘ temp) → sums ≡ tab (columnSum beyond (cellAt nan m out) n) m
+  pub softmax : (out sums : List Float) (beyond : Float) → out ≡ exps → beyond ≡ exp (plusZero ⊘ temp) → sums ≡ tab (columnSum beyond (cellAt nan m out) n) m
       → grid (shares (cellAt nan m out) sums) n m out ≡ grid (mhDistSimilarity l temp n m) n m l
   softmax out sums beyond e b f =
       rw e
@@ -109,7 +109,7 @@ module _ (temp : Float) (n m : ℕ) (l : List Float) where
 similarity-ext : (d e : ℕ → ℕ → Float) (temp : Float) (n m : ℕ) → ((i j : ℕ) → i < n → j < m → d i j ≡ e i j) → (i j : ℕ) → i < n → j < m → similarity d temp n i j ≡ similarity e temp n i j
 unfolding similarity normalized
 similarity-ext d e temp n m h i j hi hj =
-    rw (h i j hi hj, fold-ext (λ sum k. sum ⊕ exponential d temp k j) (λ sum k. sum ⊕ exponential e temp k j) zero n (λ sum k b. ap (λ (v : Float). sum ⊕ exp (cond (lt limit v) zero (limit ⊖ v) ⊘ temp)) (h k j b hj)))
+    rw (h i j hi hj, fold-ext (λ sum k. sum ⊕ exponential d temp k j) (λ sum k. sum ⊕ exponential e temp k j) plusZero n (λ sum k b. ap (λ (v : Float). sum ⊕ exp (cond (lt limit v) plusZero (limit ⊖ v) ⊘ temp)) (h k j b hj)))
 
 pub of-copied : (distance l out : List Float) (temp : Float) (n m : ℕ) → length distance ≡ n * m → out ≡ filled (λ k. getD distance k nan) l (length distance)
     → grid (mhDistSimilarity out temp n m) n m out ≡ grid (mhDistSimilarity distance temp n m) n m l

@@ -5,31 +5,31 @@ use Prim.Native.Nat.{ℕ, _*_}
 use lib.Dec.{ltb, eqb}
 use borrow.Author.Tests.{ltb-false}
 use Rattle.laws.specs.Tests.{or-none}
-use Rattle.assoc_similarity.specs.declared.refusal.Verdict.the-variants.{Accepted}
-use Rattle.assoc_similarity.specs.Refusal.{tooMany}
-use Rattle.assoc_similarity.specs.Sizes.{ofCorners, ofConfidences, ofCells, ofDistances}
-use Rattle.assoc_similarity.specs.Private.{Ready, Roomy}
-use Rattle.assoc_similarity.proofs.Laws.{passed, few-sides, same-size}
+use Rattle.refusals.specs.declared.refusal.Verdict.the-variants.{Accepted}
+use Rattle.refusals.specs.Refusal.{tooMany}
+use Rattle.assoc_similarity.specs.Sizes.{ofCorners, ofConfidences, ofCells, ofDistances, Ready}
+use Rattle.assoc_similarity.specs.Private.{Roomy}
+use Rattle.refusals.proofs.Laws.{passed, few-sides, same-size}
 
 -- a list of corners for the boxes and one for the tracks, as ofCorners tests them
 abbrev misfit : ℕ → ℕ → ℕ → ℕ → Bool
 misfit boxes tracks detections corners = not (eqb detections (boxes * 4)) || not (eqb corners (tracks * 4))
 
-fits : (boxes tracks detections corners : ℕ) → misfit boxes tracks detections corners ≡ false → (detections ≡ boxes * 4) × (corners ≡ tracks * 4)
-fits boxes tracks detections corners e =
+corners-fit : (boxes tracks detections corners : ℕ) → misfit boxes tracks detections corners ≡ false → (detections ≡ boxes * 4) × (corners ≡ tracks * 4)
+corners-fit boxes tracks detections corners e =
     let s = or-none (not (eqb detections (boxes * 4))) (not (eqb corners (tracks * 4))) e in
     (same-size detections (boxes * 4) (s .0), same-size corners (tracks * 4) (s .1))
 
 pub ready : (boxes tracks detections corners out : ℕ) → ofCorners boxes tracks detections corners out ≡ Accepted → Ready boxes tracks detections corners out
 ready boxes tracks detections corners out e =
     let a = passed (tooMany boxes tracks) (misfit boxes tracks detections corners) (ltb out (boxes * tracks)) e in
-    let s = fits boxes tracks detections corners (a .sized) in
+    let s = corners-fit boxes tracks detections corners (a .sized) in
     record { detections-fit = s .0; corners-fit = s .1; room = ltb-false out (boxes * tracks) (a .enough) }
 
 pub ready-soft : (boxes tracks detections corners confidences out : ℕ) → ofConfidences boxes tracks detections corners confidences out ≡ Accepted → Ready boxes tracks detections corners out
 ready-soft boxes tracks detections corners confidences out e =
     let a = passed (tooMany boxes tracks) (not (eqb confidences tracks) || misfit boxes tracks detections corners) (ltb out (boxes * tracks)) e in
-    let s = fits boxes tracks detections corners (or-none (not (eqb confidences tracks)) (misfit boxes tracks detections corners) (a .sized) .1) in
+    let s = corners-fit boxes tracks detections corners (or-none (not (eqb confidences tracks)) (misfit boxes tracks detections corners) (a .sized) .1) in
     record { detections-fit = s .0; corners-fit = s .1; room = ltb-false out (boxes * tracks) (a .enough) }
 
 pub roomy : (boxes tracks cells : ℕ) → ofCells boxes tracks cells ≡ Accepted → Roomy boxes tracks cells

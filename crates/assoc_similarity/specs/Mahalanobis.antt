@@ -7,7 +7,7 @@ use lib.Dec.{eqb}
 use lib.Ieee.{Float, nan, binary32, ofBits, round, lt}
 use Rattle.laws.specs.Fold.{fold}
 use Rattle.laws.specs.Grid.{cellAt}
-use Rattle.floats.specs.Single.{_⊕_, _⊖_, _⊘_, zero}
+use Rattle.floats.specs.Single.{_⊕_, _⊖_, _⊘_, plusZero}
 use Rattle.floats.specs.Exponential.{exp}
 
 -- 13.2767, by its bits, as the code has it
@@ -24,7 +24,7 @@ module _ (mahalanobisDistance : ℕ → ℕ → Float) where
   mask i j = let v : Float = mahalanobisDistance i j in cond (lt limit v) 0 1
 
   abbrev pub mhDist : ℕ → ℕ → Float
-  mhDist i j = let v : Float = mahalanobisDistance i j in cond (lt limit v) zero (limit ⊖ v)
+  mhDist i j = let v : Float = mahalanobisDistance i j in cond (lt limit v) plusZero (limit ⊖ v)
 
   module _ (softmaxTemp : Float) where
     abbrev pub exponential : ℕ → ℕ → Float
@@ -32,11 +32,11 @@ module _ (mahalanobisDistance : ℕ → ℕ → Float) where
 
     -- the sum of column j, with the cells beyond the limit
     unfoldable pub normalized : ℕ → ℕ → Float
-    normalized nRows j = fold (λ sumExp i. sumExp ⊕ exponential i j) zero nRows
+    normalized nRows j = fold (λ sumExp i. sumExp ⊕ exponential i j) plusZero nRows
 
     unfoldable pub similarity : ℕ → ℕ → ℕ → Float
     unfolding normalized
-    similarity nRows i j = cond (eqb (mask i j) 1) (exponential i j ⊘ normalized nRows j) zero
+    similarity nRows i j = cond (eqb (mask i j) 1) (exponential i j ⊘ normalized nRows j) plusZero
 
 -- of a flat matrix with a row for each box and a cell for each track
 abbrev pub mhDistSimilarity : List Float → Float → ℕ → ℕ → ℕ → ℕ → Float

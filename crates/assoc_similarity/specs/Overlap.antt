@@ -4,7 +4,7 @@ use mathlib.Core.List.{List}
 use Prim.Native.Nat.{ℕ, _+_, _*_}
 use lib.ListN.{getD}
 use lib.Ieee.{Float, nan}
-use Rattle.floats.specs.Single.{zero}
+use Rattle.floats.specs.Single.{plusZero}
 use Rattle.assoc_boxes.specs.Overlap.{boundingBox}
 use Rattle.assoc_boxes.specs.declared.overlap.BoundingBox.{BoundingBox}
 unfoldable pub use Rattle.assoc_boxes.specs.Overlap.{intersection, union, ratio, overlap, softBiou}
@@ -17,4 +17,4 @@ abbrev pub iouBatch : List Float → List Float → ℕ → ℕ → Float
 iouBatch detections tracks i j = overlap (boxAt detections i) (boxAt tracks j)
 
 abbrev pub softBiouBatch : List Float → List Float → List Float → ℕ → ℕ → Float
-softBiouBatch detections tracks trackConfidences i j = softBiou (boxAt detections i) (boxAt tracks j) (getD trackConfidences j zero)
+softBiouBatch detections tracks trackConfidences i j = softBiou (boxAt detections i) (boxAt tracks j) (getD trackConfidences j plusZero)

@@ -1,6 +1,5 @@
 // Matrices over two lists of corners: iou_batch, soft_biou_batch, shape_similarity_v1 and shape_similarity_v2 of assoc.rs, by one loop over the rows and, for each measure, its own over the cells of a row.
 use super::corners::box_at;
-use super::refusal::Verdict;
 use super::sizes::of_confidences;
 use super::sizes::of_corners;
 use assoc_boxes::overlap::BoundingBox;
@@ -8,6 +7,7 @@ use assoc_boxes::overlap::overlap;
 use assoc_boxes::overlap::soft_biou;
 use assoc_boxes::shape::exponent_v1;
 use assoc_boxes::shape::exponent_v2;
+use refusals::Verdict;
 ghost use mathlib.Core.Path.{_≡_};
 ghost use mathlib.Core.List.{[]};
 ghost use Prim.Native.Nat.{_*_};
@@ -15,13 +15,13 @@ ghost use lib.ListN.{length, getD};
 ghost use lib.Ieee.{nan};
 ghost use Rattle.laws.specs.Tab.{tab};
 ghost use Rattle.laws.specs.Grid.{grid};
-ghost use Rattle.floats.specs.Single.{zero};
+ghost use Rattle.floats.specs.Single.{plusZero};
 ghost use Rattle.floats.specs.Exponential.{exp};
-ghost use Rattle.assoc_similarity.specs.Sizes.{ofCorners, ofConfidences, after};
+ghost use Rattle.assoc_similarity.specs.Sizes.{ofCorners, ofConfidences, Ready, after};
 ghost use Rattle.assoc_similarity.specs.Overlap.{boxAt, overlap as overlapOf, softBiou, iouBatch, softBiouBatch};
 ghost use Rattle.assoc_boxes.specs.Shape.{exponentV1, exponentV2};
 ghost use Rattle.assoc_similarity.specs.Shape.{shapeV1, shapeV2, shapeSimilarityV1, shapeSimilarityV2};
-ghost use Rattle.assoc_similarity.specs.Private.{Ready, measured, measuredBatch};
+ghost use Rattle.assoc_similarity.specs.Private.{measured, measuredBatch};
 
 // What a cell says of a detection and a track.
 pub(crate) enum Measure {
@@ -32,8 +32,8 @@ pub(crate) enum Measure {
 }
 
 // The confidence of track j, 0 where none are lent.
-pub(crate) fn confidence_at(confidences: &[f32], j: usize) -> f32
-    ensures { λ r. ⌜ r ≡ getD (now (confidences .entry)) j zero ⌝ }
+pub fn confidence_at(confidences: &[f32], j: usize) -> f32
+    ensures { λ r. ⌜ r ≡ getD (now (confidences .entry)) j plusZero ⌝ }
 {
     if j < confidences.len() {
         return confidences[j];
@@ -57,7 +57,7 @@ fn iou_row(det: BoundingBox, corners: &[f32], cells: &mut [f32])
 
 fn soft_biou_row(det: BoundingBox, corners: &[f32], confidences: &[f32], cells: &mut [f32])
     requires { ⌜ length (now corners) ≡ length (now cells) * 4 ⌝ }
-    ensures { λ _. ⌜ now (cells .exit) ≡ tab (λ j. softBiou det (boxAt (now (corners .entry)) j) (getD (now (confidences .entry)) j zero)) (length (now (cells .entry))) ⌝ }
+    ensures { λ _. ⌜ now (cells .exit) ≡ tab (λ j. softBiou det (boxAt (now (corners .entry)) j) (getD (now (confidences .entry)) j plusZero)) (length (now (cells .entry))) ⌝ }
 {
     let tracks = cells.len();
     let mut j = 0;
@@ -121,7 +121,7 @@ fn shape_v2_row(det: BoundingBox, corners: &[f32], cells: &mut [f32])
 
 fn row(of: Measure, det: BoundingBox, corners: &[f32], confidences: &[f32], cells: &mut [f32])
     requires { ⌜ length (now corners) ≡ length (now cells) * 4 ⌝ }
-    ensures { λ _. ⌜ now (cells .exit) ≡ tab (λ j. measured of det (boxAt (now (corners .entry)) j) (getD (now (confidences .entry)) j zero)) (length (now (cells .entry))) ⌝ }
+    ensures { λ _. ⌜ now (cells .exit) ≡ tab (λ j. measured of det (boxAt (now (corners .entry)) j) (getD (now (confidences .entry)) j plusZero)) (length (now (cells .entry))) ⌝ }
 {
     match of {
         Measure::Iou => iou_row(det, corners, cells),

@@ -1,18 +1,13 @@
 // The matrices of assoc.rs, over lent flat slices: a row for each detection, a cell for each track.
 mod batch;
 mod corners;
-mod cost;
 mod mahalanobis;
-mod refusal;
 mod sizes;
 
+pub use batch::confidence_at;
 pub use batch::iou_batch;
 pub use batch::shape_similarity_v1;
 pub use batch::shape_similarity_v2;
 pub use batch::soft_biou_batch;
-pub use cost::AssociateParams;
-pub use cost::associate_cost;
 pub use mahalanobis::mh_dist_similarity;
 pub use mahalanobis::mh_dist_similarity_over;
-pub use refusal::Refusal;
-pub use refusal::Verdict;

@@ -1,14 +1,14 @@
 // mh_dist_similarity of assoc.rs, worked in place: distances become exponentials, and these their shares of the columns' sums.
-use super::refusal::Verdict;
 use super::sizes::of_cells;
 use super::sizes::of_distances;
+use refusals::Verdict;
 ghost use mathlib.Core.Path.{_≡_};
 ghost use Prim.Native.Nat.{_+_, _*_, _≤_};
 ghost use lib.ListN.{length, getD};
 ghost use lib.Ieee.{nan};
 ghost use Rattle.laws.specs.Tab.{tab, filled};
 ghost use Rattle.laws.specs.Grid.{grid, cellAt};
-ghost use Rattle.floats.specs.Single.{_⊕_, zero};
+ghost use Rattle.floats.specs.Single.{_⊕_, plusZero};
 ghost use Rattle.assoc_similarity.specs.Sizes.{ofCells, ofDistances, after};
 ghost use Rattle.assoc_similarity.specs.Mahalanobis.{mhDistSimilarity};
 ghost use Rattle.assoc_similarity.specs.Private as Private;
@@ -76,7 +76,7 @@ fn add_row(matrix: &[f32], at: usize, beyond: f32, sums: &mut [f32])
 
 // The sums of the columns, row by row, in `sums`, which is 0 on entry.
 fn column_sums(boxes: usize, matrix: &[f32], beyond: f32, sums: &mut [f32])
-    requires { ⌜ (boxes * length (now sums) ≤ length (now matrix)) × (now sums ≡ tab (λ _. zero) (length (now sums))) ⌝ }
+    requires { ⌜ (boxes * length (now sums) ≤ length (now matrix)) × (now sums ≡ tab (λ _. plusZero) (length (now sums))) ⌝ }
     ensures { λ _. ⌜ now (sums .exit) ≡ tab (Private.columnSum beyond (cellAt nan (length (now (sums .entry))) (now (matrix .entry))) boxes) (length (now (sums .entry))) ⌝ }
 {
     let tracks = sums.len();
@@ -126,7 +126,7 @@ fn share_rows(boxes: usize, tracks: usize, sums: &[f32], cells: &mut [f32])
 
 // Exponentials, their sums in `sums`, which is 0 on entry, and shares.
 fn mh_rows(boxes: usize, tracks: usize, softmax_temp: f32, sums: &mut [f32], cells: &mut [f32])
-    requires { ⌜ (boxes * tracks ≤ length (now cells)) × (now sums ≡ tab (λ _. zero) tracks) ⌝ }
+    requires { ⌜ (boxes * tracks ≤ length (now cells)) × (now sums ≡ tab (λ _. plusZero) tracks) ⌝ }
     ensures { λ _. ⌜ now (cells .exit) ≡ grid (mhDistSimilarity (now (cells .entry)) «softmax_temp» boxes tracks) boxes tracks (now (cells .entry)) ⌝ }
 {
     exp_rows(boxes, tracks, softmax_temp, cells);

@@ -1,8 +1,8 @@
 // The verdict on a call that fills a matrix, from its sides and the lengths of its slices.
-use super::refusal::Refusal;
-use super::refusal::Verdict;
+use refusals::Refusal;
+use refusals::Verdict;
 ghost use mathlib.Core.Path.{_≡_};
-ghost use Rattle.assoc_similarity.specs.Refusal.{tooMany};
+ghost use Rattle.refusals.specs.Refusal.{tooMany};
 ghost use Rattle.assoc_similarity.specs.Sizes as Sizes;
 
 // 31 before 32 and 33, so that no product is taken of sides above 255.

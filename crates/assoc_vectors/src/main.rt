@@ -2,116 +2,138 @@
 // what it was given and one of every cell that it was lent. oracle/assoc/run writes both files, stdin by its own
 // rules and stdout by the published assoc.rs and lapjv.rs.
 //
-// A record is its kind, 25 words and what follows. The kinds 0 to 7 are calls of iou_batch, soft_biou_batch,
-// shape_similarity_v1, shape_similarity_v2, mh_dist_similarity, match_detections, linear_assignment and associate. Their
-// words: boxes in two halves, tracks, flags of associate (1 distances, 2 confidences, 4 the corrected shape), threshold
-// or temperature, three weights; where the five inputs start and end among the floats that are held; the lengths lent
-// for a matrix, four lists and both work slices. The title follows.
-// 8 holds floats that follow, from a first place to a last; 9 draws them (vectors::cells): words 2 to 5 are the seed in
-// two halves, the spread and the step, and 6 to 21 the patterns.
-mod answers;
-mod pairs;
-
-use assoc_similarity::Verdict;
+// A record is its kind and words. The kinds 0 to 7 are calls of iou_batch, soft_biou_batch, shape_similarity_v1,
+// shape_similarity_v2, mh_dist_similarity, match_detections, linear_assignment and associate. Their 25 words: n boxes in
+// two halves, m tracks, flags of associate (1 distances, 2 confidences, 4 the corrected shape), threshold or temperature,
+// three weights; where the five inputs start and end among the floats that are held; the lengths lent for a matrix, four
+// lists and both work slices. A title follows.
+// 8 holds floats, from a first place to a last: these two are its words, and the floats follow. 9 draws them
+// (vectors::cells); of its 25 words 2 to 5 are the seed in two halves, the spread and the step, and 6 to 21 the patterns.
+use assoc::AssignmentAnswer;
+use assoc::AssociateParams;
+use assoc::MatchAnswer;
 use vectors::digest;
 use vectors::floats::float;
 use vectors::held::hold;
 use vectors::input;
-use vectors::part::at_most;
-use vectors::part::whole;
-use vectors::text;
+use vectors::lent;
+use vectors::line::Line;
+use vectors::part;
 
-fn measure(kind: u32, w: &[u64; 25], a: &[f32], b: &[f32], c: &[f32], out: &mut [f32]) -> Verdict {
-    let boxes = whole(w[0], w[1]);
-    let tracks = w[2] as usize;
-    match kind {
-        0 => assoc_similarity::iou_batch(boxes, tracks, a, b, out),
-        1 => assoc_similarity::soft_biou_batch(boxes, tracks, a, b, c, out),
-        2 => assoc_similarity::shape_similarity_v1(boxes, tracks, a, b, out),
-        3 => assoc_similarity::shape_similarity_v2(boxes, tracks, a, b, out),
-        _ => assoc_similarity::mh_dist_similarity(boxes, tracks, a, float(w[4]), out),
+// 0 and the counts of a call that is accepted; the number of a refusal.
+fn matched(line: Line, answer: MatchAnswer) -> Line {
+    match answer {
+        MatchAnswer::Matched(c) => {
+            let pairs = line.number(0).number(c.pairs as u64);
+            pairs.number(c.turns as u64).number(c.scans as u64)
+        }
+        MatchAnswer::Refused(why) => line.number(why.number() as u64),
     }
 }
 
-fn measured(kind: u32, w: &[u64; 25], a: &[f32], b: &[f32], c: &[f32], out: &mut [f32]) -> u64 {
-    answers::verdict(measure(kind, w, a, b, c, out));
-    digest::floats(digest::START, out)
-}
-
-// A matrix of 7s; the digest of all that is lent.
-fn matrix(kind: u32, w: &[u64; 25], a: &[f32], b: &[f32], c: &[f32]) -> u64 {
-    let mut out = [7.0f32; 65027];
-    let end = at_most(65027, w[18]);
-    measured(kind, w, a, b, c, &mut out[..end])
-}
-
-fn answered(
-    kind: u32,
-    w: &[u64; 25],
-    a: &[f32],
-    b: &[f32],
-    c: &[f32],
-    d: &[f32],
-    e: &[f32],
-) -> u64 {
-    if kind < 5 {
-        return matrix(kind, w, a, b, c);
+fn assigned(line: Line, answer: AssignmentAnswer) -> Line {
+    match answer {
+        AssignmentAnswer::Assigned(c) => {
+            let pairs = line.number(0).number(c.pairs as u64);
+            let lists = pairs.number(c.detections as u64).number(c.tracks as u64);
+            lists.number(c.turns as u64).number(c.scans as u64)
+        }
+        AssignmentAnswer::Refused(why) => line.number(why.number() as u64),
     }
-    pairs::pairs(kind, w, a, b, c, d, e)
 }
 
-fn called(kind: u32, w: &[u64; 25], a: &[f32], b: &[f32], c: &[f32], d: &[f32], e: &[f32]) {
-    text::bar();
-    let lent = answered(kind, w, a, b, c, d, e);
-    text::bar();
-    let boxes = digest::floats(digest::floats(digest::START, a), b);
-    text::digest(digest::floats(digest::floats(digest::floats(boxes, c), d), e));
-    text::digest(lent);
-    text::end();
+fn params(w: &[u64; 25]) -> AssociateParams {
+    AssociateParams {
+        iou_threshold: float(w[4]),
+        lambda_iou: float(w[5]),
+        lambda_mhd: float(w[6]),
+        lambda_shape: float(w[7]),
+        use_shape_similarity_correction: w[3] / 4 % 2 == 1,
+        has_mahalanobis: w[3] % 2 == 1,
+        has_confidence: w[3] / 2 % 2 == 1,
+    }
 }
 
-fn call(kind: u32, w: &[u64; 25], held: &[f32]) {
-    let a = at_most(held.len(), w[9]);
-    let b = at_most(held.len(), w[11]);
-    let c = at_most(held.len(), w[13]);
-    let d = at_most(held.len(), w[15]);
-    let e = at_most(held.len(), w[17]);
-    let of_a = at_most(a, w[8]);
-    let of_b = at_most(b, w[10]);
-    let of_c = at_most(c, w[12]);
-    let of_d = at_most(d, w[14]);
-    let of_e = at_most(e, w[16]);
-    called(
-        kind,
-        w,
-        &held[of_a..a],
-        &held[of_b..b],
-        &held[of_c..c],
-        &held[of_d..d],
-        &held[of_e..e],
-    );
+fn inputs(w: &[u64; 25], held: &[f32]) -> u64 {
+    let a = digest::floats(digest::START, part::floats(held, w[8], w[9]));
+    let b = digest::floats(a, part::floats(held, w[10], w[11]));
+    let c = digest::floats(b, part::floats(held, w[12], w[13]));
+    let d = digest::floats(c, part::floats(held, w[14], w[15]));
+    digest::floats(d, part::floats(held, w[16], w[17]))
+}
+
+// A matrix of 7s is lent.
+fn matrix(kind: u32, w: &[u64; 25], held: &[f32]) {
+    let mut cells = [7.0f32; 65027];
+    let out = lent::floats(&mut cells, w[18]);
+    let n = part::whole(w[0], w[1]) as usize;
+    let m = w[2] as usize;
+    let a = part::floats(held, w[8], w[9]);
+    let b = part::floats(held, w[10], w[11]);
+    let c = part::floats(held, w[12], w[13]);
+    let verdict = match kind {
+        0 => assoc_similarity::iou_batch(n, m, a, b, out),
+        1 => assoc_similarity::soft_biou_batch(n, m, a, b, c, out),
+        2 => assoc_similarity::shape_similarity_v1(n, m, a, b, out),
+        3 => assoc_similarity::shape_similarity_v2(n, m, a, b, out),
+        _ => assoc_similarity::mh_dist_similarity(n, m, a, float(w[4]), out),
+    };
+    let said = Line::titled().bar().number(verdict.number() as u64);
+    let given = said.bar().digest(inputs(w, held));
+    given.digest(digest::floats(digest::START, out)).print();
+}
+
+// Lists of 7777s and work slices of 1s are lent.
+fn pairs(kind: u32, w: &[u64; 25], held: &[f32]) {
+    let mut pairs = [7777usize; 257];
+    let mut more = [7777usize; 257];
+    let mut boxes = [7777usize; 257];
+    let mut tracks = [7777usize; 257];
+    let mut doubles = [1.0f64; 65538];
+    let mut floats = [1.0f32; 262146];
+    let p = lent::numbers(&mut pairs, w[19]);
+    let q = lent::numbers(&mut more, w[20]);
+    let r = lent::numbers(&mut boxes, w[21]);
+    let s = lent::numbers(&mut tracks, w[22]);
+    let u = lent::doubles(&mut doubles, w[23]);
+    let v = lent::floats(&mut floats, w[24]);
+    let n = part::whole(w[0], w[1]) as usize;
+    let m = w[2] as usize;
+    let a = part::floats(held, w[8], w[9]);
+    let b = part::floats(held, w[10], w[11]);
+    let c = part::floats(held, w[12], w[13]);
+    let d = part::floats(held, w[14], w[15]);
+    let e = part::floats(held, w[16], w[17]);
+    let least = float(w[4]);
+    let line = Line::titled().bar();
+    let said = match kind {
+        5 => matched(line, assoc::match_detections(n, m, a, least, p, q, u)),
+        6 => assigned(
+            line,
+            assoc::linear_assignment(n, m, a, b, least, p, q, r, s, u),
+        ),
+        _ => assigned(
+            line,
+            assoc::associate(params(w), n, m, a, b, c, d, e, p, q, r, s, u, v),
+        ),
+    };
+    let lists = digest::numbers(digest::numbers(digest::START, p), q);
+    let all = digest::numbers(digest::numbers(lists, r), s);
+    let lent = digest::floats(digest::doubles(all, u), v);
+    said.bar().digest(inputs(w, held)).digest(lent).print();
 }
 
 // One record; false where there is none left.
 fn replay(held: &mut [f32; 198154]) -> bool {
     let kind = input::word_or(10);
-    if kind > 9 {
-        return false;
-    }
     let mut w = [0u64; 25];
-    if kind == 8 {
-        input::numbers(2, 0, &mut w);
-        hold(true, &w, held);
-        return true;
+    input::words(if kind == 8 { 2 } else { 25 }, 0, &mut w);
+    match kind {
+        0..=4 => matrix(kind, &w, held),
+        5..=7 => pairs(kind, &w, held),
+        _ => hold(kind == 8, &w, held),
     }
-    input::numbers(25, 0, &mut w);
-    if kind == 9 {
-        hold(false, &w, held);
-        return true;
-    }
-    input::title();
-    call(kind, &w, held);
-    true
+    kind < 10
 }
 
 // A proved loop has to end, and nothing says that the input does: the count is one that no run uses up.

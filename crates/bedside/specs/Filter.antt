@@ -3,8 +3,8 @@ use mathlib.Core.List.{List, [], _∷_}
 use lib.ListN.{getD}
 use lib.Ieee.{Float, nan}
 use Prim.Native.Nat.{ℕ}
-use Rattle.strack.specs.declared.kalman_filter.Pair.{Pair}
-use Rattle.strack.specs.declared.kalman_filter.DetectBox.{DetectBox}
+use Rattle.strack_filter.specs.declared.kalman_filter.Pair.{Pair}
+use Rattle.strack_filter.specs.declared.kalman_filter.DetectBox.{DetectBox}
 use Rattle.strack.specs.declared.rect.Xyxy.{Xyxy}
 use Rattle.bedside.specs.declared.filter.Corrected.{Corrected}
 

@@ -1,11 +1,11 @@
 // The filter, the conversions and the confidence.
-use strack::kalman_filter::DetectBox;
-use strack::kalman_filter::Pair;
-use strack::kalman_filter::PairCorrection;
 use strack::rect::Xyxy;
+use strack_filter::kalman_filter::DetectBox;
+use strack_filter::kalman_filter::Pair;
+use strack_filter::kalman_filter::PairCorrection;
 ghost use mathlib.Core.Path.{_≡_};
 ghost use Rattle.bedside.specs.Filter as C;
-ghost use Rattle.strack.specs.KalmanFilter.{startPair, predictPair, correctPair, pairAnswer};
+ghost use Rattle.strack_filter.specs.KalmanFilter.{startPair, predictPair, correctPair, pairAnswer};
 ghost use Rattle.strack.specs.Strack.{convertBboxToZ, convertZToBbox, confidence};
 
 #[repr(C)]

@@ -4,7 +4,9 @@ use boost_tracker::State;
 use boost_tracker::UpdateAnswer;
 ghost use mathlib.Core.Path.{_≡_};
 ghost use Rattle.boost_tracker_table.specs.Settings.{new};
-ghost use Rattle.bedside.specs.Frame.{updatedInC, UpdateInC};
+ghost use Rattle.boost_tracker_table.specs.Lent.{callWith};
+ghost use Rattle.boost_tracker.specs.Frame.{memoryWith, updated};
+ghost use Rattle.bedside.specs.Frame.{updatedInC, callInC};
 
 #[repr(C)]
 pub struct Updated {
@@ -55,8 +57,8 @@ pub extern "C" fn bedside_update(
     work64: &mut [f64],
     work32: &mut [f32],
 ) -> Updated
-    ensures { λ r. ⌜ UpdateInC settings state (now (floats .entry)) (now (counters .entry)) (now (boxes .entry)) (now (out .entry)) (now (work64 .entry)) (now (work32 .entry))
-        r (now (floats .exit)) (now (counters .exit)) (now (out .exit)) (now (work64 .exit)) (now (work32 .exit)) ⌝ }
+    ensures { λ r. ⌜ callWith r (memoryWith (now (floats .exit)) (now (counters .exit)) (now (out .exit)) (now (work64 .exit)) (now (work32 .exit)))
+        ≡ callInC (updated settings state (now (boxes .entry)) (memoryWith (now (floats .entry)) (now (counters .entry)) (now (out .entry)) (now (work64 .entry)) (now (work32 .entry)))) ⌝ }
 {
     of_update(boost_tracker::update(
         settings,

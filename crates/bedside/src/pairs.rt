@@ -1,17 +1,18 @@
 // The pairing.
 use assoc::AssignmentAnswer;
+use assoc::AssociateParams;
 use assoc::MatchAnswer;
-use assoc_similarity::AssociateParams;
-use assoc_similarity::Refusal;
-use assoc_similarity::Verdict;
 ghost use mathlib.Core.Path.{_≡_};
 ghost use lib.ListN.{length};
-ghost use Rattle.assoc_similarity.specs.Refusal as Refusals;
 ghost use Rattle.assoc_similarity.specs.Sizes.{ofCorners, ofConfidences, ofDistances};
 ghost use Rattle.assoc_similarity.specs.Overlap.{iouBatch, softBiouBatch};
 ghost use Rattle.assoc_similarity.specs.Shape.{shapeSimilarityV1, shapeSimilarityV2};
 ghost use Rattle.assoc_similarity.specs.Mahalanobis.{mhDistSimilarity};
-ghost use Rattle.bedside.specs.Pairs.{MatrixInC, matchedInC, MatchInC, assignmentInC, AssignmentInC, AssociateInC};
+ghost use Rattle.assoc_matching.specs.Answers.{matchLentWith, matchCall};
+ghost use Rattle.assoc_assignment.specs.Answers.{assignmentCall};
+ghost use Rattle.assoc_assignment.specs.Answers as Assignments;
+ghost use Rattle.assoc.specs.Answers.{lentWith, associateCall};
+ghost use Rattle.bedside.specs.Pairs.{MatrixInC, matchedInC, assignmentInC, matchCallInC, callInC};
 
 #[repr(C)]
 pub struct Matched {
@@ -33,25 +34,6 @@ pub struct Assignment {
 
 // ---- answers
 
-fn number(why: Refusal) -> u32
-    ensures { λ r. ⌜ r ≡ Refusals.number why ⌝ }
-{
-    match why {
-        Refusal::TooMany => 31,
-        Refusal::OtherSize => 32,
-        Refusal::TooShort => 33,
-    }
-}
-
-fn of_verdict(v: Verdict) -> u32
-    ensures { λ r. ⌜ r ≡ Refusals.verdictNumber v ⌝ }
-{
-    match v {
-        Verdict::Accepted => 0,
-        Verdict::Refused(why) => number(why),
-    }
-}
-
 fn of_match(a: MatchAnswer) -> Matched
     ensures { λ r. ⌜ r ≡ matchedInC a ⌝ }
 {
@@ -63,7 +45,7 @@ fn of_match(a: MatchAnswer) -> Matched
             scans: c.scans as u64,
         },
         MatchAnswer::Refused(why) => Matched {
-            refusal: number(why),
+            refusal: why.number(),
             pairs: 0,
             turns: 0,
             scans: 0,
@@ -84,7 +66,7 @@ fn of_assignment(a: AssignmentAnswer) -> Assignment
             scans: c.scans as u64,
         },
         AssignmentAnswer::Refused(why) => Assignment {
-            refusal: number(why),
+            refusal: why.number(),
             pairs: 0,
             unmatched_detections: 0,
             unmatched_tracks: 0,
@@ -104,9 +86,11 @@ pub extern "C" fn bedside_iou_batch(
     corners: &[f32],
     out: &mut [f32],
 ) -> u32
-    ensures { λ r. ⌜ MatrixInC (ofCorners boxes tracks (length (now (detections .entry))) (length (now (corners .entry))) (length (now (out .entry)))) (iouBatch (now (detections .entry)) (now (corners .entry))) boxes tracks (now (out .entry)) r (now (out .exit)) ⌝ }
+    ensures { λ r. ⌜ MatrixInC (ofCorners boxes tracks (length (now (detections .entry))) (length (now (corners .entry))) (length (now (out .entry))))
+        (iouBatch (now (detections .entry)) (now (corners .entry)))
+        boxes tracks (now (out .entry)) r (now (out .exit)) ⌝ }
 {
-    of_verdict(assoc_similarity::iou_batch(boxes, tracks, detections, corners, out))
+    assoc_similarity::iou_batch(boxes, tracks, detections, corners, out).number()
 }
 
 #[no_mangle]
@@ -118,16 +102,18 @@ pub extern "C" fn bedside_soft_biou_batch(
     track_confidences: &[f32],
     out: &mut [f32],
 ) -> u32
-    ensures { λ r. ⌜ MatrixInC (ofConfidences boxes tracks (length (now (detections .entry))) (length (now (corners .entry))) (length (now («track_confidences» .entry))) (length (now (out .entry)))) (softBiouBatch (now (detections .entry)) (now (corners .entry)) (now («track_confidences» .entry))) boxes tracks (now (out .entry)) r (now (out .exit)) ⌝ }
+    ensures { λ r. ⌜ MatrixInC (ofConfidences boxes tracks (length (now (detections .entry))) (length (now (corners .entry))) (length (now («track_confidences» .entry))) (length (now (out .entry))))
+        (softBiouBatch (now (detections .entry)) (now (corners .entry)) (now («track_confidences» .entry)))
+        boxes tracks (now (out .entry)) r (now (out .exit)) ⌝ }
 {
-    of_verdict(assoc_similarity::soft_biou_batch(
+    assoc_similarity::soft_biou_batch(
         boxes,
         tracks,
         detections,
         corners,
         track_confidences,
         out,
-    ))
+    ).number()
 }
 
 #[no_mangle]
@@ -138,9 +124,11 @@ pub extern "C" fn bedside_shape_similarity_v1(
     corners: &[f32],
     out: &mut [f32],
 ) -> u32
-    ensures { λ r. ⌜ MatrixInC (ofCorners boxes tracks (length (now (detections .entry))) (length (now (corners .entry))) (length (now (out .entry)))) (shapeSimilarityV1 (now (detections .entry)) (now (corners .entry))) boxes tracks (now (out .entry)) r (now (out .exit)) ⌝ }
+    ensures { λ r. ⌜ MatrixInC (ofCorners boxes tracks (length (now (detections .entry))) (length (now (corners .entry))) (length (now (out .entry))))
+        (shapeSimilarityV1 (now (detections .entry)) (now (corners .entry)))
+        boxes tracks (now (out .entry)) r (now (out .exit)) ⌝ }
 {
-    of_verdict(assoc_similarity::shape_similarity_v1(boxes, tracks, detections, corners, out))
+    assoc_similarity::shape_similarity_v1(boxes, tracks, detections, corners, out).number()
 }
 
 #[no_mangle]
@@ -151,9 +139,11 @@ pub extern "C" fn bedside_shape_similarity_v2(
     corners: &[f32],
     out: &mut [f32],
 ) -> u32
-    ensures { λ r. ⌜ MatrixInC (ofCorners boxes tracks (length (now (detections .entry))) (length (now (corners .entry))) (length (now (out .entry)))) (shapeSimilarityV2 (now (detections .entry)) (now (corners .entry))) boxes tracks (now (out .entry)) r (now (out .exit)) ⌝ }
+    ensures { λ r. ⌜ MatrixInC (ofCorners boxes tracks (length (now (detections .entry))) (length (now (corners .entry))) (length (now (out .entry))))
+        (shapeSimilarityV2 (now (detections .entry)) (now (corners .entry)))
+        boxes tracks (now (out .entry)) r (now (out .exit)) ⌝ }
 {
-    of_verdict(assoc_similarity::shape_similarity_v2(boxes, tracks, detections, corners, out))
+    assoc_similarity::shape_similarity_v2(boxes, tracks, detections, corners, out).number()
 }
 
 #[no_mangle]
@@ -164,9 +154,11 @@ pub extern "C" fn bedside_mh_dist_similarity(
     softmax_temp: f32,
     out: &mut [f32],
 ) -> u32
-    ensures { λ r. ⌜ MatrixInC (ofDistances boxes tracks (length (now (distance .entry))) (length (now (out .entry)))) (mhDistSimilarity (now (distance .entry)) «softmax_temp» boxes tracks) boxes tracks (now (out .entry)) r (now (out .exit)) ⌝ }
+    ensures { λ r. ⌜ MatrixInC (ofDistances boxes tracks (length (now (distance .entry))) (length (now (out .entry))))
+        (mhDistSimilarity (now (distance .entry)) «softmax_temp» boxes tracks)
+        boxes tracks (now (out .entry)) r (now (out .exit)) ⌝ }
 {
-    of_verdict(assoc_similarity::mh_dist_similarity(boxes, tracks, distance, softmax_temp, out))
+    assoc_similarity::mh_dist_similarity(boxes, tracks, distance, softmax_temp, out).number()
 }
 
 // ---- pairs
@@ -181,7 +173,8 @@ pub extern "C" fn bedside_match_detections(
     pair_tracks: &mut [usize],
     work: &mut [f64],
 ) -> Matched
-    ensures { λ r. ⌜ MatchInC boxes tracks (now (cost .entry)) threshold (now («pair_boxes» .entry)) (now («pair_tracks» .entry)) (now (work .entry)) r (now («pair_boxes» .exit)) (now («pair_tracks» .exit)) (now (work .exit)) ⌝ }
+    ensures { λ r. ⌜ matchCallInC r (matchLentWith (now («pair_boxes» .exit)) (now («pair_tracks» .exit)) (now (work .exit)))
+        ≡ matchCall boxes tracks (now (cost .entry)) threshold (matchLentWith (now («pair_boxes» .entry)) (now («pair_tracks» .entry)) (now (work .entry))) ⌝ }
 {
     of_match(assoc::match_detections(
         boxes,
@@ -207,8 +200,9 @@ pub extern "C" fn bedside_linear_assignment(
     unmatched_tracks: &mut [usize],
     work: &mut [f64],
 ) -> Assignment
-    ensures { λ r. ⌜ AssignmentInC boxes tracks (now (iou .entry)) (now (cost .entry)) threshold (now («pair_boxes» .entry)) (now («pair_tracks» .entry)) (now («unmatched_detections» .entry)) (now («unmatched_tracks» .entry)) (now (work .entry))
-        r (now («pair_boxes» .exit)) (now («pair_tracks» .exit)) (now («unmatched_detections» .exit)) (now («unmatched_tracks» .exit)) (now (work .exit)) ⌝ }
+    ensures { λ r. ⌜ callInC r (Assignments.lentWith (now («pair_boxes» .exit)) (now («pair_tracks» .exit)) (now («unmatched_detections» .exit)) (now («unmatched_tracks» .exit)) (now (work .exit)))
+        ≡ assignmentCall boxes tracks (now (iou .entry)) (now (cost .entry)) threshold
+        (Assignments.lentWith (now («pair_boxes» .entry)) (now («pair_tracks» .entry)) (now («unmatched_detections» .entry)) (now («unmatched_tracks» .entry)) (now (work .entry))) ⌝ }
 {
     of_assignment(assoc::linear_assignment(
         boxes,
@@ -241,9 +235,9 @@ pub extern "C" fn bedside_associate(
     work64: &mut [f64],
     work32: &mut [f32],
 ) -> Assignment
-    ensures { λ r. ⌜ AssociateInC params boxes tracks (now (detections .entry)) (now (corners .entry)) (now (mahalanobis .entry)) (now («track_confidence» .entry)) (now («detection_confidence» .entry))
-        (now («pair_boxes» .entry)) (now («pair_tracks» .entry)) (now («unmatched_detections» .entry)) (now («unmatched_tracks» .entry)) (now (work64 .entry)) (now (work32 .entry))
-        r (now («pair_boxes» .exit)) (now («pair_tracks» .exit)) (now («unmatched_detections» .exit)) (now («unmatched_tracks» .exit)) (now (work64 .exit)) (now (work32 .exit)) ⌝ }
+    ensures { λ r. ⌜ callInC r (lentWith (now («pair_boxes» .exit)) (now («pair_tracks» .exit)) (now («unmatched_detections» .exit)) (now («unmatched_tracks» .exit)) (now (work64 .exit)) (now (work32 .exit)))
+        ≡ associateCall params boxes tracks (now (detections .entry)) (now (corners .entry)) (now (mahalanobis .entry)) (now («track_confidence» .entry)) (now («detection_confidence» .entry))
+        (lentWith (now («pair_boxes» .entry)) (now («pair_tracks» .entry)) (now («unmatched_detections» .entry)) (now («unmatched_tracks» .entry)) (now (work64 .entry)) (now (work32 .entry))) ⌝ }
 {
     of_assignment(assoc::associate(
         params,

@@ -1,109 +1,156 @@
--- Steps 1 to 7 and step 8 one after the other are the definition, and what a call of `update` answers. Assumes nothing.
+-- Step 8 is as its contract says, steps 1 to 7 and step 8 one after the other are the definition, and a refused call changes nothing. Assumes nothing.
 use mathlib.Core.Path.{_≡_, refl, sym, ap, _∙_}
 use mathlib.Core.List.{List}
-use Prim.Native.Nat.{ℕ, _+_, _*_, _/_, _≤_, _<_, min}
+use Prim.Native.Nat.{ℕ, _+_, _/_, _≤_, min}
 use native.Mathlib.Nat.{min-eq-left}
 use native.Mathlib.Omega.{arith}
 use lib.ListN.{length}
 use lib.Ieee.{Float}
+use Rattle.laws.specs.Laid.{laid}
+use Rattle.assoc_matching.specs.Answers.{zeroed}
+use Rattle.assoc.specs.Answers.{cleared}
 use Rattle.records.specs.TrackRecord.{trackBytes}
-use Rattle.boost_tracker_table.specs.declared.refusal.Refusal.{Refusal}
-use Rattle.boost_tracker_table.specs.declared.refusal.Verdict.{Verdict}
-use Rattle.boost_tracker_table.specs.declared.refusal.Verdict.the-variants.{Accepted, Refused}
+use Rattle.boost_tracker_verdict.specs.declared.refusal.Refusal.{Refusal}
+use Rattle.boost_tracker_verdict.specs.declared.refusal.Verdict.{Verdict}
+use Rattle.boost_tracker_verdict.specs.declared.refusal.Verdict.the-variants.{Accepted, Refused}
 use Rattle.boost_tracker_table.specs.declared.settings.Settings.{Settings}
-use Rattle.boost_tracker_table.specs.declared.sound.State.{State}
-use Rattle.boost_tracker_table.specs.Table.{Track, capacity, tracks, Laying}
-use Rattle.boost_tracker_table.specs.Laws.{lay-tracks, lay-finished}
-use Rattle.boost_tracker_table.specs.Verdict.{boxesIn, answer, verdict}
-use Rattle.boost_tracker_table.specs.Ready.{Ready, ready}
+use Rattle.boost_tracker_verdict.specs.declared.sound.State.{State}
+use Rattle.boost_tracker_table.specs.Table.{Track, capacity, tracks, retained, Laying, Retired, Emptied}
+use Rattle.boost_tracker_table.specs.Lent.{Table, tableWith, placesOf, tracksIn, laidOver, holding, Call, callWith}
+use Rattle.boost_tracker_table.proofs.Laws.{held-table, tracks-many, lay-here, lay-tracks, lay-emptied, lay-capacity, lay-finished}
+use Rattle.boost_tracker_table.specs.Record.{recordBytes}
+use Rattle.boost_tracker_table.specs.Emission.{Emitted}
+use Rattle.boost_tracker_verdict.specs.Verdict.{boxesIn, verdict, whereAccepted}
+use Rattle.boost_tracker_verdict.specs.Ready.{Ready}
+use Rattle.boost_tracker_verdict.proofs.ReadyLaws.{ready}
 use Rattle.boost_tracker_definition.specs.Update.{Stages, steps, update}
-use Rattle.boost_tracker_definition.proofs.FactLaws.{frame-facts}
+use Rattle.boost_tracker_definition.specs.Facts.{FrameFacts}
+use Rattle.boost_tracker_definition.proofs.FactLaws.{frame-facts, started-few}
 use Rattle.boost_tracker_steps.specs.declared.all_steps.Advanced.{Advanced}
-use Rattle.boost_tracker_steps.specs.AllSteps.{advancedBy, AdvanceLeaves, StartedFacts, AdvanceEnds}
+use Rattle.boost_tracker_steps.specs.AllSteps.{refusedAdvance, acceptedAdvance, Lent, lentWith, lentAfter, advanced}
 use Rattle.boost_tracker.specs.declared.frame.UpdateAnswer.{UpdateAnswer}
-use Rattle.boost_tracker.specs.Answers.{refusedAnswer, UpdateDone, UpdateEnds}
-use Rattle.boost_tracker.specs.Private.{FinishRoom, Finished}
+use Rattle.boost_tracker.specs.Frame.{refusedAnswer, acceptedAnswer, Memory, memoryWith, updated}
+use Rattle.boost_tracker.specs.Private.{FinishRoom, Ending, endingWith, answerOf, finished}
 
-told : (v : Verdict) (g : Stages) → advancedBy v g .verdict ≡ v
-told Accepted g = refl
-told (Refused why) g = refl
+-- ---- step 8
 
-module _ (s : Settings) (state : State) (f : List Float) (c : List ℕ) (boxes : List Float) (out : List ℕ) (work64 work32 : List Float) where
-  abbrev frame : Stages
-  frame = update s state boxes (tracks f c (state .count))
+-- the records of all tracks, which have room, then the retired and the cleared table
+pub finish-is : (s : Settings) (state : State) (a : Advanced) (f : List Float) (c out : List ℕ) {f₁ f₂ : List Float} {c₁ c₂ out′ : List ℕ} {count put : ℕ}
+    → FinishRoom state (a .started) (capacity (length f) (length c)) (length out / trackBytes)
+    → Emitted (tracks f c (min (state .count + a .started) (length out / trackBytes))) (state .frames + 1) (s .«min_hits») out out′ put
+    → Retired f c (state .count + a .started) (s .«max_age») f₁ c₁ count → Emptied f₁ c₁ (tracks f₁ c₁ count) f₂ c₂
+    → callWith (answerOf state a count put) (endingWith f₂ c₂ out′) ≡ finished s state a (endingWith f c out)
+unfolding finished
+finish-is s state a f c out room shows retires empties =
+    let all : ℕ = state .count + a .started in
+    let whole : min all (length out / trackBytes) ≡ all = min-eq-left (room .recorded) in
+    let shown = rw whole at shows in
+    let ends = lay-finished (lay-here f c all) (tracks-many f c all (room .placed)) (room .placed) retires empties in
+    rw (ends .0, ends .1 .floats, ends .1 .counters, shown .count, shown .bytes)
 
-  -- ---- an accepted frame
+-- zeroing after an operation: its tracks are gone
+holding-laid : (xs ys : List Track) (t : Table) → length xs ≤ placesOf t → holding ys (laidOver xs t) ≡ holding ys t
+holding-laid xs ys t h =
+    let over : Table = laidOver xs t in
+    let after : Table = holding ys over in
+    let lays : Laying (t .floats) (t .counters) (over .floats) (over .counters) xs = record { floats = refl; counters = refl } in
+    let empties : Emptied (over .floats) (over .counters) ys (after .floats) (after .counters) = record { floats = refl; counters = refl } in
+    held-table (lay-emptied lays h empties)
 
-  module _ (r : Ready s state f c boxes (length out) (length work64) (length work32)) where
-    done : {a : Advanced} {f₁ f₂ work64′ work32′ : List Float} {c₁ c₂ out′ : List ℕ} {q : UpdateAnswer} → AdvanceLeaves Accepted frame f c work64 work32 a f₁ c₁ work64′ work32′
-        → StartedFacts (s .«iou_threshold») frame (boxesIn boxes) (state .last) (state .count) (a .started) → Finished s state a f₁ c₁ out q f₂ c₂ out′
-        → UpdateDone s state f c boxes out work64 work32 q f₂ c₂ out′ work64′ work32′
-    unfolding update steps
-    done {a} {f₁} {f₂} {work64′} {work32′} {c₁} {c₂} {out′} {q} l w z =
-        let xs : List Track = frame .started .trackers in
-        let many : length xs ≡ state .count + a .started = w .many in
-        let few = w .few in
-        let space = r .space in
-        let room : state .count + a .started ≤ capacity (length f) (length c) = omega arith in
-        let all : Laying f c f₁ c₁ xs = record { floats = l .floats; counters = l .counters } in
-        let ends = lay-finished all many room (z .retired) (z .emptied) in
-        let output = r .output in
-        let whole : tracks f₁ c₁ (min (state .count + a .started) (length out / trackBytes)) ≡ xs = ap (tracks f₁ c₁) (min-eq-left (omega arith)) ∙ lay-tracks all many room in
-        let shown = rw whole at (z .output) in
-        let turns : a .turns ≡ frame .result .turns = ap (λ (b : Advanced). b .turns) (l .answer) in
-        let scans : a .scans ≡ frame .result .scans = ap (λ (b : Advanced). b .scans) (l .answer) in
-        record {
-          leaves = record {
-            answer = z .answer ∙ rw (ends .0, shown .count, turns, scans, w .last-is);
-            floats = ends .1 .floats;
-            counters = ends .1 .counters;
-            output = shown .bytes;
-            doubles = l .doubles;
-            singles = l .singles;
-          };
-          facts = frame-facts s state f c boxes (length out) (length work64) (length work32) r (w .account) many few (ends .1);
-        }
+-- ---- a call
 
-  -- ---- the answer to a call
+-- the memory that a call leaves, of what step 8 leaves and the work slices
+abbrev joined : List Float → List Float → Call UpdateAnswer Ending → Call UpdateAnswer Memory
+joined work64 work32 k = callWith (k .answer) (record { table = k .lent .table; output = k .lent .output; work64 = work64; work32 = work32 })
 
-  module _ {a : Advanced} {f₁ work64′ work32′ : List Float} {c₁ : List ℕ} (w : AdvanceEnds s state f c boxes (length out) work64 work32 a f₁ c₁ work64′ work32′) where
-    abbrev v : Verdict
-    v = verdict s state f c boxes (length out) (length work64) (length work32)
+told : (v : Verdict) (g : Stages) (l : Lent) → whereAccepted v (callWith (acceptedAdvance g) (lentAfter g l)) (callWith (refusedAdvance v) l) .answer .verdict ≡ v
+told Accepted g l = refl
+told (Refused why) g l = refl
 
-    verdict-is : a .verdict ≡ v
-    verdict-is = ap (λ (b : Advanced). b .verdict) (w .leaves .answer) ∙ told v frame
+module _ (s : Settings) (state : State) (f : List Float) (c : List ℕ) (boxes : List Float) (out : List ℕ) (work64 work32 : List Float)
+    {a : Advanced} {f₁ work64′ work32′ : List Float} {c₁ : List ℕ} (w : callWith a (lentWith f₁ c₁ work64′ work32′) ≡ advanced s state boxes (length out) (lentWith f c work64 work32)) where
+  abbrev v : Verdict
+  v = verdict s state f c boxes (length out) (length work64) (length work32)
 
-    accepted : a .verdict ≡ Accepted → Ready s state f c boxes (length out) (length work64) (length work32)
-    accepted h = ready s state f c boxes (length out) (length work64) (length work32) (sym verdict-is ∙ h)
+  abbrev g : Stages
+  g = update s state boxes (tracks f c (state .count))
 
-    pub finish-room : a .verdict ≡ Accepted → FinishRoom (state .count) (state .last) (state .frames) (a .started)
-    finish-room h =
-        let r = accepted h in
-        let ids = r .ids-low in
-        let frames = r .frames-low in
-        let boxes = r .boxes-low in
-        let space = r .space in
-        let few = w .facts h .few in
-        record { few-held = omega arith; few-started = omega arith; frames-low = frames; ids-fit = omega arith }
+  abbrev lent : Lent
+  lent = lentWith f c work64 work32
 
-    pub ends-refused : {why : Refusal} {r : UpdateAnswer} → a .verdict ≡ Refused why → r ≡ refusedAnswer (a .verdict) state → UpdateEnds s state f c boxes out work64 work32 r f₁ c₁ out work64′ work32′
-    ends-refused {why} {r} h e =
-        let l = rw (sym verdict-is ∙ h) at (w .leaves) in
-        record {
-          leaves = rw (sym verdict-is ∙ h) (record { answer = rw h at e; floats = l .floats; counters = l .counters; output = refl; doubles = l .doubles; singles = l .singles });
-          number-is = ap (λ (q : UpdateAnswer). answer (q .verdict)) e ∙ ap answer verdict-is;
-          facts = λ q. absurd (never (sym h ∙ (sym (ap (λ (p : UpdateAnswer). p .verdict) e) ∙ q)));
-        }
-      where
-        never : Refused why ≡ Accepted → ⊥
-        never q = let z : _≡_ {A = ℕ} 0 1 = cc in omega arith
+  verdict-is : a .verdict ≡ v
+  unfolding advanced
+  verdict-is = ap (λ (k : Call Advanced Lent). k .answer .verdict) w ∙ told v g lent
 
-    pub ends-accepted : {r : UpdateAnswer} {f₂ : List Float} {c₂ out′ : List ℕ} → a .verdict ≡ Accepted → Finished s state a f₁ c₁ out r f₂ c₂ out′ → UpdateEnds s state f c boxes out work64 work32 r f₂ c₂ out′ work64′ work32′
-    ends-accepted h z =
-        let l = rw (sym verdict-is ∙ h) at (w .leaves) in
-        let d = done (accepted h) l (w .facts h) z in
-        record {
-          leaves = rw (sym verdict-is ∙ h) (d .leaves);
-          number-is = ap (λ (q : UpdateAnswer). answer (q .verdict)) (d .leaves .answer) ∙ sym (ap answer (sym verdict-is ∙ h));
-          facts = λ q. d .facts;
-        }
+  -- a refused call changes nothing
+  pub update-refused : {why : Refusal} {r : UpdateAnswer} → a .verdict ≡ Refused why → r ≡ refusedAnswer (a .verdict) state
+      → callWith r (memoryWith f₁ c₁ out work64′ work32′) ≡ updated s state boxes (memoryWith f c out work64 work32)
+  unfolding advanced updated
+  update-refused {why} {r} h e =
+      let refuses : v ≡ Refused why = sym verdict-is ∙ h in
+      let left : lentWith f₁ c₁ work64′ work32′ ≡ lent = ap (λ (k : Call Advanced Lent). k .lent) (rw refuses at w) in
+      rw refuses (ap (λ (l : Lent). callWith r (memoryWith (l .table .floats) (l .table .counters) out (l .work64) (l .work32))) left ∙ rw (e, h))
+
+  module _ (h : a .verdict ≡ Accepted) where
+    accepts : v ≡ Accepted
+    accepts = sym verdict-is ∙ h
+
+    knows : Ready s state f c boxes (length out) (length work64) (length work32)
+    knows = ready s state f c boxes (length out) (length work64) (length work32) accepts
+
+    leaves : callWith a (lentWith f₁ c₁ work64′ work32′) ≡ callWith (acceptedAdvance g) (lentAfter g lent)
+    unfolding advanced
+    leaves = rw accepts at w
+
+    answer-is : a ≡ acceptedAdvance g
+    answer-is = ap (λ (k : Call Advanced Lent). k .answer) leaves
+
+    table-is : tableWith f₁ c₁ ≡ laidOver (g .started .trackers) (tableWith f c)
+    table-is = ap (λ (k : Call Advanced Lent). k .lent .table) leaves
+
+    facts : FrameFacts state (tracks f c (state .count)) g (holding (g .retained) (tableWith f c))
+    facts = frame-facts s state f c boxes (length out) (length work64) (length work32) accepts
+
+    few : length (g .result .unmatchedDetections) ≤ boxesIn boxes
+    few = started-few s state f c boxes (length out) (length work64) (length work32) accepts
+
+    many : length (g .started .trackers) ≡ state .count + length (g .result .unmatchedDetections)
+    many = facts .many ∙ rw (knows .many)
+
+    placed : length (g .started .trackers) ≤ placesOf (tableWith f c)
+    placed = let space = knows .space in let low = few in rw many (omega arith)
+
+    lays : Laying f c (laidOver (g .started .trackers) (tableWith f c) .floats) (laidOver (g .started .trackers) (tableWith f c) .counters) (g .started .trackers)
+    lays = record { floats = refl; counters = refl }
+
+    pub finish-room : FinishRoom state (a .started) (capacity (length f₁) (length c₁)) (length out / trackBytes)
+    finish-room =
+        let ids = knows .ids-low in
+        let frames = knows .frames-low in
+        let low = knows .boxes-low in
+        let space = knows .space in
+        let records = knows .output in
+        let fewer = few in
+        let same : placesOf (tableWith f₁ c₁) ≡ placesOf (tableWith f c) = ap placesOf table-is ∙ lay-capacity lays placed in
+        rw (answer-is, same) (record { few-held = omega arith; few-started = omega arith; frames-low = frames; ids-fit = omega arith; placed = omega arith; recorded = omega arith })
+
+    -- step 8 over what steps 1 to 7 leave
+    finished-is : finished s state (acceptedAdvance g) (record { table = laidOver (g .started .trackers) (tableWith f c); output = out })
+        ≡ callWith (acceptedAnswer g) (record { table = holding (g .retained) (tableWith f c); output = laid (recordBytes (g .frameCount)) trackBytes (g .output) out })
+    unfolding finished update steps
+    finished-is =
+        let xs : List Track = g .started .trackers in
+        let space = knows .space in
+        let fewer = few in
+        let all : tracksIn (laidOver xs (tableWith f c)) (state .count + length (g .result .unmatchedDetections)) ≡ xs = lay-tracks lays many (omega arith) in
+        rw (all, holding-laid xs (retained (s .«max_age») xs) (tableWith f c) placed, facts .last-id)
+
+    pub update-accepted : {r : UpdateAnswer} {f₂ : List Float} {c₂ out′ : List ℕ} → callWith r (endingWith f₂ c₂ out′) ≡ finished s state a (endingWith f₁ c₁ out)
+        → callWith r (memoryWith f₂ c₂ out′ work64′ work32′) ≡ updated s state boxes (memoryWith f c out work64 work32)
+    unfolding updated
+    update-accepted {r} {f₂} {c₂} {out′} z =
+        let ends : finished s state a (endingWith f₁ c₁ out) ≡ finished s state (acceptedAdvance g) (record { table = laidOver (g .started .trackers) (tableWith f c); output = out }) =
+        ap (λ (k : Call Advanced Lent). finished s state (k .answer) (record { table = k .lent .table; output = out })) leaves in
+        let doubles : work64′ ≡ zeroed work64 = ap (λ (k : Call Advanced Lent). k .lent .work64) leaves in
+        let singles : work32′ ≡ cleared work32 = ap (λ (k : Call Advanced Lent). k .lent .work32) leaves in
+        rw accepts (ap (joined work64′ work32′) (z ∙ ends ∙ finished-is) ∙ rw (doubles, singles))

@@ -1,5 +1,5 @@
--- A frame of the tracker. Answers says what a call answers and leaves, by the definition that stands in boost_tracker_definition; Whole that a frame is worked whole or turned down.
+-- A frame of the tracker. Frame says what a call answers and leaves, by the definition that stands in boost_tracker_definition; Whole that a frame is worked whole or turned down.
 -- Private is only for the contracts between private functions.
-pub mod Answers
+pub mod Frame
 pub mod Private
 pub mod Whole

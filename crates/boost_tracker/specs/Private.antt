@@ -1,34 +1,45 @@
--- What only the contract of a private function cites: what step 8 asks for and what it leaves.
-use mathlib.Core.Path.{_≡_}
+-- What only the contract of a private function cites: what step 8 asks for, answers and leaves.
 use mathlib.Core.List.{List}
-use Prim.Native.Nat.{ℕ, _+_, _/_, _≤_, _<_, _^_, min}
+use Prim.Native.Nat.{ℕ, _+_, _≤_, _<_, _^_}
 use lib.ListN.{length}
 use lib.Ieee.{Float}
+use Rattle.laws.specs.Laid.{laid}
 use Rattle.records.specs.TrackRecord.{trackBytes}
-use Rattle.boost_tracker_table.specs.declared.refusal.Verdict.the-variants.{Accepted}
+use Rattle.boost_tracker_verdict.specs.declared.refusal.Verdict.the-variants.{Accepted}
 use Rattle.boost_tracker_table.specs.declared.settings.Settings.{Settings}
-use Rattle.boost_tracker_table.specs.declared.sound.State.{State}
-use Rattle.boost_tracker_table.specs.Table.{tracks, Retired, Emptied}
-use Rattle.boost_tracker_table.specs.Emission.{Emitted}
+use Rattle.boost_tracker_verdict.specs.declared.sound.State.{State}
+use Rattle.boost_tracker_table.specs.Table.{Track, retained}
+use Rattle.boost_tracker_table.specs.Lent.{Table, tableWith, tracksIn, holding, Call, callWith}
+use Rattle.boost_tracker_table.specs.Record.{recordBytes}
+use Rattle.boost_tracker_table.specs.Emission.{emitted}
 use Rattle.boost_tracker_steps.specs.declared.all_steps.Advanced.{Advanced}
 use Rattle.boost_tracker.specs.declared.frame.UpdateAnswer.{UpdateAnswer}
 
-pub record FinishRoom (held last frames started : ℕ) : Type 0 where
-  pub few-held : held ≤ 255
+-- for so many places and so many records of output
+pub record FinishRoom (state : State) (started places records : ℕ) : Type 0 where
+  pub few-held : state .count ≤ 255
   pub few-started : started ≤ 255
-  pub frames-low : frames < 2147483647
-  pub ids-fit : last + 255 < 2 ^ 64
+  pub frames-low : state .frames < 2147483647
+  pub ids-fit : state .last + 255 < 2 ^ 64
+  pub placed : state .count + started ≤ places
+  pub recorded : state .count + started ≤ records
+
+-- what step 8 is lent
+pub record Ending : Type 0 where
+  pub table : Table
+  pub output : List ℕ
+
+abbrev pub endingWith : List Float → List ℕ → List ℕ → Ending
+endingWith floats counters output = record { table = tableWith floats counters; output = output }
 
 -- the answer for so many tracks that stay and that are put out
 abbrev pub answerOf : State → Advanced → ℕ → ℕ → UpdateAnswer
 answerOf state a count emitted = record { verdict = Accepted; state = record { count = count; last = state .last + a .started; frames = state .frames + 1 }; emitted = emitted; turns = a .turns; scans = a .scans }
 
 -- all tracks are looked at for the output, then those too old are retired, and the places behind the others cleared
-pub record Finished (s : Settings) (state : State) (a : Advanced) (f : List Float) (c : List ℕ) (out : List ℕ) (r : UpdateAnswer) (f′ : List Float) (c′ : List ℕ) (out′ : List ℕ) : Type 0 where
-  -- the table between retiring and clearing
-  pub floats : List Float
-  pub counters : List ℕ
-  pub answer : r ≡ answerOf state a (r .state .count) (r .emitted)
-  pub output : Emitted (tracks f c (min (state .count + a .started) (length out / trackBytes))) (state .frames + 1) (s .«min_hits») out out′ (r .emitted)
-  pub retired : Retired f c (state .count + a .started) (s .«max_age») floats counters (r .state .count)
-  pub emptied : Emptied floats counters (tracks floats counters (r .state .count)) f′ c′
+unfoldable pub finished : Settings → State → Advanced → Ending → Call UpdateAnswer Ending
+finished s state a m =
+    let all : List Track = tracksIn (m .table) (state .count + a .started) in
+    let stay : List Track = retained (s .«max_age») all in
+    let put : List Track = emitted (state .frames + 1) (s .«min_hits») all in
+    callWith (answerOf state a (length stay) (length put)) (record { table = holding stay (m .table); output = laid (recordBytes (state .frames + 1)) trackBytes put (m .output) })

@@ -2,11 +2,16 @@
 use boost_tracker_steps::Advanced;
 use boost_tracker_steps::advance;
 use boost_tracker_table::Settings;
-use boost_tracker_table::State;
-use boost_tracker_table::Verdict;
+use boost_tracker_verdict::State;
+use boost_tracker_verdict::Verdict;
 ghost use mathlib.Core.Path.{_≡_};
-ghost use Rattle.boost_tracker.specs.Private.{FinishRoom, Finished};
-ghost use Rattle.boost_tracker.specs.Answers.{refusedAnswer, UpdateEnds};
+ghost use Prim.Native.Nat.{_/_};
+ghost use lib.ListN.{length};
+ghost use Rattle.records.specs.TrackRecord.{trackBytes};
+ghost use Rattle.boost_tracker_table.specs.Table.{capacity};
+ghost use Rattle.boost_tracker_table.specs.Lent.{callWith};
+ghost use Rattle.boost_tracker.specs.Private.{FinishRoom, endingWith, finished};
+ghost use Rattle.boost_tracker.specs.Frame.{refusedAnswer, memoryWith, updated};
 
 // The state is the new one, or the one given where the frame is refused; the counts are 0 there.
 pub struct UpdateAnswer {
@@ -27,8 +32,9 @@ fn finish(
     counters: &mut [u64],
     out: &mut [u8],
 ) -> UpdateAnswer
-    requires { ⌜ FinishRoom (state .count) (state .last) (state .frames) (advanced .started) ⌝ }
-    ensures { λ r. ⌜ Finished settings state advanced (now (floats .entry)) (now (counters .entry)) (now (out .entry)) r (now (floats .exit)) (now (counters .exit)) (now (out .exit)) ⌝ }
+    requires { ⌜ FinishRoom state (advanced .started) (capacity (length (now floats)) (length (now counters))) (length (now out) / trackBytes) ⌝ }
+    ensures { λ r. ⌜ callWith r (endingWith (now (floats .exit)) (now (counters .exit)) (now (out .exit)))
+        ≡ finished settings state advanced (endingWith (now (floats .entry)) (now (counters .entry)) (now (out .entry))) ⌝ }
 {
     let frame = state.frames + 1;
     let started = advanced.started;
@@ -81,7 +87,8 @@ pub fn update(
     work64: &mut [f64],
     work32: &mut [f32],
 ) -> UpdateAnswer
-    ensures { λ r. ⌜ UpdateEnds settings state (now (floats .entry)) (now (counters .entry)) (now (boxes .entry)) (now (out .entry)) (now (work64 .entry)) (now (work32 .entry)) r (now (floats .exit)) (now (counters .exit)) (now (out .exit)) (now (work64 .exit)) (now (work32 .exit)) ⌝ }
+    ensures { λ r. ⌜ callWith r (memoryWith (now (floats .exit)) (now (counters .exit)) (now (out .exit)) (now (work64 .exit)) (now (work32 .exit)))
+        ≡ updated settings state (now (boxes .entry)) (memoryWith (now (floats .entry)) (now (counters .entry)) (now (out .entry)) (now (work64 .entry)) (now (work32 .entry))) ⌝ }
 {
     let advanced = advance(
         settings,

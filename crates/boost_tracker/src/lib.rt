@@ -1,9 +1,9 @@
 // The tracker: `update` of boost_tracker.rs, without ECC, over lent memory.
 mod frame;
 
-pub use boost_tracker_table::Refusal;
 pub use boost_tracker_table::Settings;
-pub use boost_tracker_table::State;
-pub use boost_tracker_table::Verdict;
+pub use boost_tracker_verdict::Refusal;
+pub use boost_tracker_verdict::State;
+pub use boost_tracker_verdict::Verdict;
 pub use frame::UpdateAnswer;
 pub use frame::update;

@@ -1,6 +1,5 @@
--- What both boosts of the scores share. Sizes says when a call is accepted, and what it leaves then; Laws what the sizes are where they fit, and Rows what a matrix of one box is.
+-- What both boosts of the scores share. Sizes says when a call is accepted, and what it leaves then, and Rows what a matrix of one box is.
 -- Examples has the boxes and numbers that the boosts' examples are written with.
 pub mod Sizes
-pub mod Laws
 pub mod Rows
 pub mod Examples

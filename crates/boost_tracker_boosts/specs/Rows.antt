@@ -13,8 +13,8 @@ use Rattle.laws.specs.Tab.{tab}
 use Rattle.laws.specs.Laid.{rows, laid}
 use Rattle.laws.specs.Packed.{packed}
 use Rattle.laws.specs.Grid.{grid}
-use Rattle.assoc_similarity.specs.declared.refusal.Verdict.{Verdict}
-use Rattle.assoc_similarity.specs.declared.refusal.Verdict.the-variants.{Accepted}
+use Rattle.refusals.specs.declared.refusal.Verdict.{Verdict}
+use Rattle.refusals.specs.declared.refusal.Verdict.the-variants.{Accepted}
 use Rattle.assoc_similarity.specs.Sizes.{ofCorners, after}
 use Rattle.assoc_similarity.specs.Overlap.{iouBatch}
 

@@ -5,9 +5,9 @@ use mathlib.Core.List.{List}
 use Prim.Native.Nat.{ℕ, _*_}
 use lib.Dec.{ltb, eqb}
 use lib.Ieee.{Float}
-use Rattle.assoc_similarity.specs.declared.refusal.Verdict.{Verdict}
-use Rattle.assoc_similarity.specs.declared.refusal.Verdict.the-variants.{Accepted, Refused}
-use Rattle.assoc_similarity.specs.Refusal.{tooMany, verdict}
+use Rattle.refusals.specs.declared.refusal.Verdict.{Verdict}
+use Rattle.refusals.specs.declared.refusal.Verdict.the-variants.{Accepted, Refused}
+use Rattle.refusals.specs.Refusal.{tooMany, verdict}
 
 -- of the boxes: their corners and scores
 abbrev pub otherBoxes : ℕ → ℕ → ℕ → Bool

@@ -1,9 +1,9 @@
 // The verdict on a call, from its sides and the lengths of its slices.
-use assoc_similarity::Refusal;
-use assoc_similarity::Verdict;
+use refusals::Refusal;
+use refusals::Verdict;
 ghost use mathlib.Core.Path.{_≡_};
 ghost use Prim.Native.Nat.{_≤_};
-ghost use Rattle.assoc_similarity.specs.Refusal.{tooMany};
+ghost use Rattle.refusals.specs.Refusal.{tooMany};
 ghost use Rattle.boost_tracker_boosts.specs.Sizes as Sizes;
 
 // 31 before 32 and 33, so that no product is taken of sides above 255.

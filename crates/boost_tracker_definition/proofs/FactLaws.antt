@@ -1,28 +1,67 @@
--- The facts of an accepted frame, from the account of its assignment. Assumes nothing.
+-- The facts of an accepted frame, and the account of its assignment. Assumes nothing.
 use mathlib.Core.Path.{_≡_, refl, sym, ap, _∙_}
-use mathlib.Core.Bool.{true}
+use mathlib.Core.Bool.{Bool, true, false, cond, not, _&&_, _||_}
 use mathlib.Core.List.{List, _++_, map}
 use Prim.Native.Nat.{ℕ, _+_, _*_, _≤_, _<_}
 use native.Mathlib.Nat.{le-trans}
 use native.Mathlib.Omega.{arith}
-use lib.ListN.{length, length-append, length-map}
-use lib.Ieee.{Float}
-use Rattle.laws.specs.Sieve.{sieve-few}
+use lib.Dec.{eqb, leb}
+use lib.ListN.{length, length-append, length-map, getD, List·getD-map}
+use lib.Ieee.{Float, nan}
+use Rattle.laws.specs.Tab.{length-tab, getD-any, indices}
+use Rattle.laws.specs.Sieve.{sieve, sieve-few}
 use Rattle.strack.specs.Strack.{predict}
-use Rattle.assoc_matching.specs.Matching.{Pair, boxesOf, tracksOf}
-use Rattle.assoc_matching.specs.Account.{Accounted}
+use Rattle.strack.proofs.Laws.{update-accepted}
+use Rattle.boost_tracker_dlo.specs.declared.dlo.DloSettings.{DloSettings}
+use Rattle.boost_tracker_dlo.specs.MhDist.{det, getMhDistMatrix}
+use Rattle.boost_tracker_dlo.specs.Dlo.{similarity, coefficient, soft, varying, boosted, dloConfidenceBoost}
+use Rattle.boost_tracker_duo.specs.Duo.{boostCandidates, masked, duoConfidenceBoost}
+use Rattle.assoc_matching.specs.Matching.{Pair, pair, boxesOf, tracksOf}
+use Rattle.assoc_assignment.specs.Account.{Accounted}
+use Rattle.assoc.specs.Association.{ious}
+use Rattle.assoc.proofs.Theorem.{account}
+use Rattle.boost_tracker_verdict.specs.declared.refusal.Verdict.the-variants.{Accepted}
 use Rattle.boost_tracker_table.specs.declared.settings.Settings.{Settings}
-use Rattle.boost_tracker_table.specs.declared.sound.State.{State}
-use Rattle.boost_tracker_table.specs.Table.{Track, capacity, tracks, young, retained, Emptied}
-use Rattle.boost_tracker_table.specs.Laws.{emptied-tracks, emptied-lengths}
-use Rattle.boost_tracker_table.specs.Sound.{rising}
-use Rattle.boost_tracker_table.specs.Verdict.{boxesIn}
-use Rattle.boost_tracker_table.specs.Ready.{HeldTrack, Ready}
-use Rattle.boost_tracker_definition.specs.Update.{trackerAt, Started, startedFrom, Stages, steps, update}
-use Rattle.boost_tracker_definition.specs.Facts.{FrameFacts}
+use Rattle.boost_tracker_verdict.specs.declared.sound.State.{State}
+use Rattle.boost_tracker_table.specs.Table.{Track, blank, tracks, young, retained, Emptied}
+use Rattle.boost_tracker_table.specs.Lent.{Table, tableWith, placesOf, tracksIn, holding}
+use Rattle.boost_tracker_table.proofs.Laws.{emptied-tracks, emptied-lengths}
+use Rattle.boost_tracker_verdict.specs.Sound.{rising}
+use Rattle.boost_tracker_verdict.specs.Verdict.{boxesIn, verdict}
+use Rattle.boost_tracker_verdict.specs.Ready.{HeldTrack, Ready}
+use Rattle.boost_tracker_verdict.proofs.ReadyLaws.{ready}
+use Rattle.boost_tracker_definition.specs.Update.{some, trackerAt, probOf, bboxes, scores, dloSettings, dlo, duo, afterDlo, afterDuo, remains, remainInds, detScores, mhDist, params, result, Started, startedFrom, Stages, steps, update}
+use Rattle.boost_tracker_definition.specs.Facts.{pairAt, correctionAt, FrameFacts}
 use Rattle.boost_tracker_definition.specs.Plain.{correctedBy, startedBy}
 use Rattle.boost_tracker_definition.proofs.PlainLaws.{all-above, matched-is, started-is}
-use Rattle.boost_tracker_definition.proofs.TrackFacts.{hits-many, news-many, old-id, new-id-is, sound-after}
+use Rattle.boost_tracker_definition.proofs.TrackFacts.{hit-is, hits-many, news-many, old-id, new-id-is, sound-after}
+
+-- ---- the pairs
+
+predicted-at : (held : List Track) (i : ℕ) → i < length held → trackerAt (map predict held) i ≡ predict (trackerAt held i)
+predicted-at held i h = getD-any (map predict held) i blank (predict blank) (rw (length-map held predict) h) ∙ List·getD-map predict held i blank
+
+-- a held track is correctable once predicted, and no track is in two pairs
+pairs-corrected : (state : State) (held : List Track) → ((i : ℕ) → i < length held → HeldTrack state (trackerAt held i)) → (g : Stages) → g .predicted ≡ map predict held
+    → g .matched ≡ correctedBy (g .detBboxes) (boxesOf (g .result .matches)) (tracksOf (g .result .matches)) (map predict held)
+    → {iou : List Float} {threshold : Float} → Accounted iou (length (g .detScores)) (length held) threshold (g .result)
+    → (k : ℕ) → k < length (g .result .matches) → (correctionAt g k .0 ≡ 0) × (trackerAt (g .matched) (pairAt g k .track) ≡ correctionAt g k .1)
+pairs-corrected state held each g predicted hit acc k h =
+    let ms : List Pair = g .result .matches in
+    let box-is : getD (boxesOf ms) k 0 ≡ pairAt g k .box = List·getD-map (λ (p : Pair). p .box) ms k (pair 0 0) in
+    let track-is : getD (tracksOf ms) k 0 ≡ pairAt g k .track = List·getD-map (λ (p : Pair). p .track) ms k (pair 0 0) in
+    let within : k < length (tracksOf ms) = rw (length-map ms (λ (p : Pair). p .track)) h in
+    let halves : length (boxesOf ms) ≡ length (tracksOf ms) = length-map ms (λ (p : Pair). p .box) ∙ sym (length-map ms (λ (p : Pair). p .track)) in
+    let low : getD (tracksOf ms) k 0 < length held = acc .tracks-once .below k within in
+    let t : ℕ = pairAt g k .track in
+    let low-t : t < length held = rw track-is at low in
+    let is : trackerAt (g .predicted) t ≡ predict (trackerAt held t) = rw predicted (predicted-at held t low-t) in
+    let corrects = hit-is (g .detBboxes) (boxesOf ms) (tracksOf ms) (map predict held) (acc .tracks-once .apart) halves k within (rw (length-map held predict) low) in
+    let hits = rw (box-is, track-is) at corrects in
+    let takes = update-accepted (predict (trackerAt held t)) (det (g .detBboxes) (pairAt g k .box)) (each t low-t .correctable) in
+    (rw (is, takes) refl, rw (hit, predicted) hits)
+
+-- ---- the table and the ids
 
 -- what a caller learns, of any stages whose tracks are those held, corrected, and those started
 facts-of : (state : State) (held : List Track) → ((i : ℕ) → i < length held → HeldTrack state (trackerAt held i)) → rising 0 held ≡ true → state .frames < 2147483647 → state .last ≤ 255 * state .frames
@@ -30,9 +69,9 @@ facts-of : (state : State) (held : List Track) → ((i : ℕ) → i < length hel
     → {iou : List Float} {threshold : Float} → Accounted iou (length (g .detScores)) (length held) threshold (g .result)
     → g .started ≡ startedFrom (state .last + length (g .result .unmatchedDetections))
     (correctedBy (g .detBboxes) (boxesOf (g .result .matches)) (tracksOf (g .result .matches)) (map predict held) ++ startedBy (state .last) (g .detBboxes) (g .result .unmatchedDetections))
-    → {k : ℕ} → length (g .started .trackers) ≡ length held + k → k ≤ 255 → {f f′ : List Float} {c c′ : List ℕ} → length held + k ≤ capacity (length f) (length c) → Emptied f c (g .retained) f′ c′
-    → FrameFacts state held g f′ c′
-facts-of state held each rises low ids g frame oldest kept {iou} {threshold} acc all {k} size few {f} {f′} {c} {c′} room z =
+    → g .predicted ≡ map predict held → g .matched ≡ correctedBy (g .detBboxes) (boxesOf (g .result .matches)) (tracksOf (g .result .matches)) (map predict held)
+    → length (g .result .unmatchedDetections) ≤ 255 → (t : Table) → length held + length (g .result .unmatchedDetections) ≤ placesOf t → FrameFacts state held g (holding (g .retained) t)
+facts-of state held each rises low ids g frame oldest kept {iou} {threshold} acc all predicted hit few t room =
     let corners : List Float = g .detBboxes in
     let pb : List ℕ = boxesOf (g .result .matches) in
     let pt : List ℕ = tracksOf (g .result .matches) in
@@ -45,14 +84,18 @@ facts-of state held each rises low ids g frame oldest kept {iou} {threshold} acc
     let last : g .started .trackIdCount ≡ state .last + length un = ap (λ (t : Started). t .trackIdCount) all in
     let many : length (hits ++ news) ≡ length held + length un =
     length-append hits news ∙ rw (hits-many state held each rises low corners pb pt un halves apart, news-many state held each rises low corners pb pt un halves apart) in
-    let sizes : length (hits ++ news) ≡ length held + k = rw whole at size in
-    let left : length (g .retained) ≤ capacity (length f) (length c) = rw (kept, whole) (le-trans (sieve-few (young oldest) (hits ++ news)) (rw sizes room)) in
-    let holds : tracks f′ c′ (length (g .retained)) ≡ g .retained = emptied-tracks z left in
+    let after : Table = holding (g .retained) t in
+    let z : Emptied (t .floats) (t .counters) (g .retained) (after .floats) (after .counters) = record { floats = refl; counters = refl } in
+    let left : length (g .retained) ≤ placesOf t = rw (kept, whole) (le-trans (sieve-few (young oldest) (hits ++ news)) (rw many room)) in
+    let holds : tracksIn after (length (g .retained)) ≡ g .retained = emptied-tracks z left in
     let lengths = emptied-lengths z left in
-    let is-sound = sound-after state held each rises low corners pb pt un halves apart (young oldest) (capacity (length f) (length c)) ids (omega arith) (rw sizes room) in
+    let is-sound = sound-after state held each rises low corners pb pt un halves apart (young oldest) (placesOf t) ids few (rw many room) in
+    let pairs = pairs-corrected state held each g predicted hit acc in
     record {
       holds = holds;
       sound = rw (lengths .0, lengths .1, holds, frame, last, kept, whole) is-sound;
+      accepted = λ i h. pairs i h .0;
+      corrected = λ i h. pairs i h .1;
       many = rw whole many;
       old-ids = λ i h. rw whole (old-id state held each rises low corners pb pt un halves apart i h);
       new-ids = λ i h. rw whole (new-id-is state held each rises low corners pb pt un halves apart i h);
@@ -70,29 +113,137 @@ retained-is : (self : Settings) (state : State) (objects : List Float) (trackers
 unfolding update steps
 retained-is self state objects trackers = refl
 
+-- ---- how many boxes are retained
+
+cond-many : {A : Type 0} (b : Bool) (xs ys : List A) (n : ℕ) → length xs ≡ n → length ys ≡ n → length (cond b xs ys) ≡ n
+cond-many true xs ys n e f = e
+cond-many false xs ys n e f = f
+
+-- a boost leaves a score for each box
+module _ (st : DloSettings) (sim : ℕ → ℕ → Float) (since : ℕ → ℕ) (n trackers : ℕ) (l : List Float) where
+  coefficient-many : length (coefficient st sim since n trackers l) ≡ n
+  unfolding coefficient
+  coefficient-many = length-tab _ n
+
+  soft-many : length (soft st sim since n trackers l) ≡ n
+  unfolding soft
+  soft-many = length-tab _ n
+
+  varying-many : length (varying st sim since n trackers l) ≡ n
+  unfolding varying
+  varying-many = length-tab _ n
+
+boosted-many : (st : DloSettings) (sim : ℕ → ℕ → Float) (since : ℕ → ℕ) (n trackers : ℕ) (l : List Float) → length l ≡ n → length (boosted st sim since n trackers l) ≡ n
+unfolding boosted
+boosted-many st sim since n trackers l e =
+    let softened : List Float = cond (st .soft) (soft st sim since n trackers l) l in
+    cond-many (not (st .soft) && not (st .varying)) (coefficient st sim since n trackers l) (cond (st .varying) (varying st sim since n trackers softened) softened) n (coefficient-many st sim since n trackers l)
+    (cond-many (st .varying) (varying st sim since n trackers softened) softened n (varying-many st sim since n trackers softened)
+    (cond-many (st .soft) (soft st sim since n trackers l) l n (soft-many st sim since n trackers l) e))
+
+dlo-many : (self : Settings) (corners ts cs : List Float) (trackers : List Track) (l : List Float) → length (afterDlo self corners ts cs trackers l) ≡ length l
+unfolding afterDlo dlo dloConfidenceBoost
+dlo-many self corners ts cs trackers l =
+    let n : ℕ = length l in
+    let k : ℕ = length trackers in
+    let st : DloSettings = dloSettings self in
+    let boost : List Float = boosted st (similarity st corners ts cs (getMhDistMatrix corners (trackerAt trackers)) n) (λ j. trackerAt trackers j .since) n k l in
+    cond-many (self .«use_dlo_boost» && some trackers) (cond (eqb k 0 || eqb n 0) l boost) l n
+    (cond-many (eqb k 0 || eqb n 0) l boost n refl (boosted-many st (similarity st corners ts cs (getMhDistMatrix corners (trackerAt trackers)) n) (λ j. trackerAt trackers j .since) n k l refl))
+    refl
+
+masked-many : (corners l : List Float) (candidates : List ℕ) (thresh : Float) (n : ℕ) → length (masked corners l candidates thresh n) ≡ n
+unfolding masked
+masked-many corners l candidates thresh n = length-tab _ n
+
+duo-many : (self : Settings) (frameCount : ℕ) (corners : List Float) (trackers : List Track) (l : List Float) → length (afterDuo self frameCount corners trackers l) ≡ length l
+unfolding afterDuo duo duoConfidenceBoost
+duo-many self frameCount corners trackers l =
+    let n : ℕ = length l in
+    let k : ℕ = length trackers in
+    let candidates : List ℕ = boostCandidates (getMhDistMatrix corners (trackerAt trackers)) (self .«det_thresh») n k l in
+    let mask : List Float = masked corners l candidates (self .«det_thresh») n in
+    let third : List Float = cond (eqb (length candidates) 0) l mask in
+    let second : List Float = cond (eqb n 0 || eqb k 0) l third in
+    let first : List Float = cond (eqb k 0 || (eqb n 0 || leb frameCount 1)) l second in
+    cond-many (self .«use_duo_boost» && some trackers) first l n
+    (cond-many (eqb k 0 || (eqb n 0 || leb frameCount 1)) l second n refl
+    (cond-many (eqb n 0 || eqb k 0) l third n refl (cond-many (eqb (length candidates) 0) l mask n refl (masked-many corners l candidates (self .«det_thresh») n))))
+    refl
+
+scores-many : (objects : List Float) → length (scores objects) ≡ boxesIn objects
+unfolding scores
+scores-many objects = length-tab (probOf objects) (boxesIn objects)
+
+kept-few : (thresh : Float) (l : List Float) → length (detScores l (remainInds thresh l)) ≤ length l
+unfolding detScores remainInds
+kept-few thresh l =
+    let few : length (sieve (remains thresh l) (indices (length l))) ≤ length (indices (length l)) = sieve-few (remains thresh l) (indices (length l)) in
+    let all : length (indices (length l)) ≡ length l = length-tab (λ i. i) (length l) in
+    rw (length-map (sieve (remains thresh l) (indices (length l))) (λ i. getD l i nan)) (rw all at few)
+
 -- ---- the definition's frame
 
-module _ (s : Settings) (state : State) (f : List Float) (c : List ℕ) (boxes : List Float) (out work64 work32 : ℕ) (r : Ready s state f c boxes out work64 work32) where
+result-account : (self : Settings) (boxes probs : List Float) (trackers : List Track) (ts cs : List Float) → length probs ≤ 255 → length trackers ≤ 255
+    → Accounted (ious (length probs) (length trackers) boxes ts) (length probs) (length trackers) (self .«iou_threshold») (result self boxes probs trackers ts cs)
+unfolding result
+result-account self boxes probs trackers ts cs few-boxes few-tracks =
+    account (params self (length probs) (length trackers)) (length probs) (length trackers) boxes ts (mhDist (length probs) boxes trackers) cs probs few-boxes few-tracks
+
+module _ (s : Settings) (state : State) (f : List Float) (c : List ℕ) (boxes : List Float) (out work64 work32 : ℕ) (e : verdict s state f c boxes out work64 work32 ≡ Accepted) where
   abbrev held : List Track
   held = tracks f c (state .count)
 
   abbrev frame : Stages
   frame = update s state boxes held
 
+  knows : Ready s state f c boxes out work64 work32
+  knows = ready s state f c boxes out work64 work32 e
+
+  -- no more boxes are retained than there are
+  pub retained-few : length (frame .detScores) ≤ boxesIn boxes
+  unfolding update steps
+  retained-few =
+      let few = kept-few (s .«det_thresh») (frame .afterDuo) in
+      let once = dlo-many s (bboxes boxes) (frame .trks) (frame .confs) (map predict held) (scores boxes) in
+      let twice = duo-many s (state .frames + 1) (bboxes boxes) (map predict held) (frame .afterDlo) in
+      rw (twice ∙ once ∙ scores-many boxes) at few
+
+  -- the assignment accounts for every retained box and every held track
+  pub frame-account : Accounted (ious (length (frame .detScores)) (state .count) (frame .detBboxes) (frame .trks)) (length (frame .detScores)) (state .count) (s .«iou_threshold») (frame .result)
+  unfolding update steps
+  frame-account =
+      let many : length (map predict held) ≡ state .count = length-map held predict ∙ knows .many in
+      let few = retained-few in
+      let low = knows .boxes-low in
+      let space = knows .space in
+      let all : length (map predict held) ≤ 255 = rw many (omega arith) in
+      rw many at (result-account s (frame .detBboxes) (frame .detScores) (map predict held) (frame .trks) (frame .confs) (omega arith) all)
+
+  pub started-few : length (frame .result .unmatchedDetections) ≤ boxesIn boxes
+  started-few = let whole = frame-account .boxes-many in let few = retained-few in omega arith
+
+  matched-so : frame .matched ≡ correctedBy (frame .detBboxes) (boxesOf (frame .result .matches)) (tracksOf (frame .result .matches)) (map predict held)
+  unfolding update steps
+  matched-so = matched-is (frame .detBboxes) (frame .result .matches) (map predict held)
+
+  predicted-so : frame .predicted ≡ map predict held
+  unfolding update steps
+  predicted-so = refl
+
   -- all tracks before retirement
-  all-started : {iou : List Float} → Accounted iou (length (frame .detScores)) (state .count) (s .«iou_threshold») (frame .result)
-      → frame .started ≡ startedFrom (state .last + length (frame .result .unmatchedDetections))
+  all-started : frame .started ≡ startedFrom (state .last + length (frame .result .unmatchedDetections))
       (correctedBy (frame .detBboxes) (boxesOf (frame .result .matches)) (tracksOf (frame .result .matches)) (map predict held) ++ startedBy (state .last) (frame .detBboxes) (frame .result .unmatchedDetections))
   unfolding update steps
-  all-started acc =
+  all-started =
       started-is (s .«det_thresh») (frame .detBboxes) (frame .detScores) (frame .result .unmatchedDetections) (state .last) (frame .matched) (all-above (s .«det_thresh») (frame .afterDuo))
-      (λ k h. acc .unmatched-boxes-once .below k h)
+      (λ k h. frame-account .unmatched-boxes-once .below k h)
       ∙ rw (matched-is (frame .detBboxes) (frame .result .matches) (map predict held))
 
-  pub frame-facts : {iou : List Float} {f′ : List Float} {c′ : List ℕ} {k : ℕ} → Accounted iou (length (frame .detScores)) (state .count) (s .«iou_threshold») (frame .result)
-      → length (frame .started .trackers) ≡ state .count + k → k ≤ boxesIn boxes → Emptied f c (frame .retained) f′ c′ → FrameFacts state held frame f′ c′
-  frame-facts {iou} {f′} {c′} {k} acc many few z =
-      let space = r .space in
-      let low = r .boxes-low in
-      facts-of state held (λ i h. r .each i (rw (r .many) at h)) (r .ids-rise) (r .frames-low) (r .ids-low) frame (frame-is s state boxes held) (s .«max_age») (retained-is s state boxes held) {iou = iou} {threshold = s .«iou_threshold»} (rw (r .many) acc) (all-started acc)
-      {k = k} (many ∙ rw (r .many)) (omega arith) (rw (r .many) (omega arith)) z
+  pub frame-facts : FrameFacts state held frame (holding (frame .retained) (tableWith f c))
+  frame-facts =
+      let space = knows .space in
+      let low = knows .boxes-low in
+      let few = started-few in
+      facts-of state held (λ i h. knows .each i (rw (knows .many) at h)) (knows .ids-rise) (knows .frames-low) (knows .ids-low) frame (frame-is s state boxes held) (s .«max_age») (retained-is s state boxes held)
+      {iou = ious (length (frame .detScores)) (state .count) (frame .detBboxes) (frame .trks)} {threshold = s .«iou_threshold»} (rw (knows .many) frame-account) all-started predicted-so matched-so (omega arith) (tableWith f c) (rw (knows .many) (omega arith))

@@ -3,7 +3,8 @@ use mathlib.Core.Path.{_≡_, refl, sym, ap, _∙_}
 use mathlib.Core.Bool.{Bool, true, false, cond, _&&_}
 use mathlib.Core.List.{List, [], _∷_, _++_, map}
 use Prim.Native.Nat.{ℕ, zero, suc, _+_, _-_, _*_, _^_, _≤_, _<_, zero-le}
-use native.Mathlib.Nat.{le-refl, le-trans}
+use native.Mathlib.Nat.{le-refl, le-trans, lt-of-not-le}
+use native.Mathlib.Decide.{decLe}
 use native.Mathlib.Omega.{arith}
 use lib.Dec.{ltb, leb, eqb}
 use lib.ListN.{length, length-map, getD, List·getD-map, List·getD-append}
@@ -16,14 +17,14 @@ use Rattle.laws.specs.Fold.{fold}
 use Rattle.laws.specs.Sieve.{sieve, sieve-few}
 use Rattle.laws.specs.Every.{every, every-append, every-of, every-sieve}
 use Rattle.strack.specs.declared.rect.Xyxy.{Xyxy}
-use Rattle.strack.specs.KalmanFilter.{updatable}
+use Rattle.strack_filter.specs.KalmanFilter.{updatable}
 use Rattle.strack.specs.Strack.{predict, update}
 use Rattle.strack.proofs.Laws.{new-id, new-since, new-streak, new-age, predict-id, predict-since, predict-age, predict-streak-le, hit-id, hit-since, hit-streak, hit-age, update-accepted, update-refused}
 use Rattle.boost_tracker_dlo.specs.MhDist.{det}
-use Rattle.boost_tracker_table.specs.declared.sound.State.{State}
+use Rattle.boost_tracker_verdict.specs.declared.sound.State.{State}
 use Rattle.boost_tracker_table.specs.Table.{Track, blank, corrected}
-use Rattle.boost_tracker_table.specs.Sound.{rising, countersIn, sound}
-use Rattle.boost_tracker_table.specs.Ready.{HeldTrack}
+use Rattle.boost_tracker_verdict.specs.Sound.{rising, countersIn, sound}
+use Rattle.boost_tracker_verdict.specs.Ready.{HeldTrack}
 use Rattle.boost_tracker_definition.specs.Update.{trackerAt}
 use Rattle.boost_tracker_definition.specs.Plain.{correctedBy, correctOne, startedBy, startAt}
 use Rattle.boost_tracker_definition.proofs.PlainLaws.{correct-many, corrected-many}
@@ -123,6 +124,21 @@ became-on t xs p i bbox h fresh b = by-cases (eqb p i) refl
         rw q (hit bbox (getD-set-same xs i (update (getD xs i blank) bbox .1) blank h ∙ ap (λ (u : Track). update u bbox .1) (fresh q)))
     by-cases false e = rw (getD-set-other xs p i (update (getD xs p blank) bbox .1) blank (λ q. eqb-false p i e (sym q))) b
 
+hit-on : (xs : List Track) (p i : ℕ) (bbox : Xyxy) (goal : Track) → i < length xs → (p ≡ i → update (getD xs i blank) bbox .1 ≡ goal) → ((p ≡ i → ⊥) → getD xs i blank ≡ goal)
+    → getD (corrected xs p bbox) i blank ≡ goal
+hit-on xs p i bbox goal h now before = by-cases (eqb p i) refl
+  where
+    by-cases : (v : Bool) → eqb p i ≡ v → getD (corrected xs p bbox) i blank ≡ goal
+    by-cases true e = let q : p ≡ i = eqb-true p i e in rw q (getD-set-same xs i (update (getD xs i blank) bbox .1) blank h ∙ now q)
+    by-cases false e = getD-set-other xs p i (update (getD xs p blank) bbox .1) blank (λ q. eqb-false p i e (sym q)) ∙ before (eqb-false p i e)
+
+less : (k m : ℕ) → k < suc m → (k ≡ m → ⊥) → k < m
+less k m h ne = by-order (decLe m k)
+  where
+    by-order : Dec (m ≤ k) → k < m
+    by-order (yes q) = absurd (ne (omega arith))
+    by-order (no q) = lt-of-not-le q
+
 -- no track is paired twice, so each is as it was or corrected once
 module _ (corners : List Float) (pairBoxes pairTracks : List ℕ) (ts : List Track) (apart : (i j : ℕ) → i < length pairTracks → j < length pairTracks → getD pairTracks i 0 ≡ getD pairTracks j 0 → i ≡ j) where
   untouched : (k i : ℕ) → ((j : ℕ) → j < k → getD pairTracks j 0 ≡ i → ⊥) → getD (fold (correctOne corners pairBoxes pairTracks) ts k) i blank ≡ getD ts i blank
@@ -138,6 +154,23 @@ module _ (corners : List Float) (pairBoxes pairTracks : List ℕ) (ts : List Tra
   became-upto (suc k) h i b =
       became-on (getD ts i blank) (fold (correctOne corners pairBoxes pairTracks) ts k) (getD pairTracks k 0) i (det corners (getD pairBoxes k 0)) (rw (correct-many corners pairBoxes pairTracks ts k) b)
       (λ e. untouched k i (λ j l q. let z : j ≡ k = apart j k (omega arith) h (q ∙ sym e) in omega arith)) (became-upto k (omega arith) i b)
+
+  -- and the track of pair k is the one that its box corrects
+  hit-upto : (k n : ℕ) → k < n → n ≤ length pairTracks → getD pairTracks k 0 < length ts
+      → getD (fold (correctOne corners pairBoxes pairTracks) ts n) (getD pairTracks k 0) blank ≡ update (getD ts (getD pairTracks k 0) blank) (det corners (getD pairBoxes k 0)) .1
+  unfolding fold
+  hit-upto k zero h l b = absurd (omega arith)
+  hit-upto k (suc m) h l b =
+      hit-on (fold (correctOne corners pairBoxes pairTracks) ts m) (getD pairTracks m 0) (getD pairTracks k 0) (det corners (getD pairBoxes m 0)) _ (rw (correct-many corners pairBoxes pairTracks ts m) b)
+      (λ q. let z : m ≡ k = apart m k (omega arith) (omega arith) q in
+      rw z (ap (λ (u : Track). update u (det corners (getD pairBoxes k 0)) .1)
+      (untouched k (getD pairTracks k 0) (λ j low e. let y : j ≡ k = apart j k (omega arith) (omega arith) e in omega arith))))
+      (λ ne. hit-upto k m (less k m h (λ z. ne (ap (λ (j : ℕ). getD pairTracks j 0) (sym z)))) (omega arith) b)
+
+  pub hit-is : length pairBoxes ≡ length pairTracks → (k : ℕ) → k < length pairTracks → getD pairTracks k 0 < length ts
+      → getD (correctedBy corners pairBoxes pairTracks ts) (getD pairTracks k 0) blank ≡ update (getD ts (getD pairTracks k 0) blank) (det corners (getD pairBoxes k 0)) .1
+  unfolding correctedBy
+  hit-is e k h b = hit-upto k (length pairBoxes) (rw e h) (omega arith) b
 
   pub became : length pairBoxes ≡ length pairTracks → (i : ℕ) → i < length ts → Became (getD ts i blank) (getD (correctedBy corners pairBoxes pairTracks ts) i blank)
   unfolding correctedBy

@@ -1,27 +1,39 @@
--- What holds of an accepted frame, for callers: the table that it leaves is sound, new tracks get ids above the last one given, and the assignment's work is bounded.
--- Each is said of one frame; what follows for a whole history of frames is not stated here.
+-- What holds of an accepted frame, for callers: the table that it leaves is sound, every pair's track is corrected, new tracks get ids above the last one given, and the assignment's work is bounded.
+-- Each is said of one frame; what follows for a whole history of frames is not stated here. `frame-facts` of proofs/FactLaws.antt says that it holds.
 use mathlib.Core.Path.{_≡_}
 use mathlib.Core.Bool.{true}
 use mathlib.Core.List.{List}
-use Prim.Native.Nat.{ℕ, _+_, _-_, _*_, _/_, _≤_, _<_}
-use lib.ListN.{length}
-use lib.Ieee.{Float}
-use Rattle.laws.specs.Most.{greater}
-use Rattle.boost_tracker_table.specs.declared.sound.State.{State}
-use Rattle.boost_tracker_table.specs.Table.{Track, tracks}
-use Rattle.boost_tracker_table.specs.Sound.{soundTable}
+use Prim.Native.Nat.{ℕ, _+_, _-_, _*_, _/_, _≤_, _<_, max}
+use lib.ListN.{length, getD}
+use Rattle.strack.specs.Strack as strack
+use Rattle.boost_tracker_dlo.specs.MhDist.{det}
+use Rattle.assoc_matching.specs.Matching.{Pair, pair}
+use Rattle.boost_tracker_verdict.specs.declared.sound.State.{State}
+use Rattle.boost_tracker_table.specs.Table.{Track}
+use Rattle.boost_tracker_table.specs.Lent.{Table, tracksIn}
+use Rattle.boost_tracker_verdict.specs.Sound.{soundTable}
 use Rattle.boost_tracker_definition.specs.Update.{trackerAt, Stages, stateAfter}
 
+-- pair k, and what the correction of its predicted track by its box answers
+abbrev pub pairAt : Stages → ℕ → Pair
+pairAt g k = getD (g .result .matches) k (pair 0 0)
+
+abbrev pub correctionAt : Stages → ℕ → ℕ × Track
+correctionAt g k = strack.update (trackerAt (g .predicted) (pairAt g k .track)) (det (g .detBboxes) (pairAt g k .box))
+
 -- the trackers before the frame, and the table after it
-pub record FrameFacts (state : State) (trackers : List Track) (g : Stages) (f′ : List Float) (c′ : List ℕ) : Type 0 where
+pub record FrameFacts (state : State) (trackers : List Track) (g : Stages) (after : Table) : Type 0 where
   -- the table holds the retained tracks, and is sound: the next frame is not turned down with 11
-  pub holds : tracks f′ c′ (length (g .retained)) ≡ g .retained
-  pub sound : soundTable (stateAfter g) f′ c′ ≡ true
+  pub holds : tracksIn after (length (g .retained)) ≡ g .retained
+  pub sound : soundTable (stateAfter g) (after .floats) (after .counters) ≡ true
+  -- no correction is refused, and each pair's track is the corrected one
+  pub accepted : (k : ℕ) → k < length (g .result .matches) → correctionAt g k .0 ≡ 0
+  pub corrected : (k : ℕ) → k < length (g .result .matches) → trackerAt (g .matched) (pairAt g k .track) ≡ correctionAt g k .1
   -- a held track keeps its id; the unmatched boxes' tracks stand behind those held and get the ids after the state's last one, in their order
   pub many : length (g .started .trackers) ≡ length trackers + length (g .result .unmatchedDetections)
   pub old-ids : (i : ℕ) → i < length trackers → trackerAt (g .started .trackers) i .id ≡ trackerAt trackers i .id
   pub new-ids : (k : ℕ) → k < length (g .result .unmatchedDetections) → trackerAt (g .started .trackers) (length trackers + k) .id ≡ state .last + k + 1
   pub last-id : stateAfter g .last ≡ state .last + length (g .result .unmatchedDetections)
   -- row turns and column scans, by the larger of retained boxes and tracks
-  pub turns : g .result .turns ≤ 2 * greater (length (g .detScores)) (length trackers) * (greater (length (g .detScores)) (length trackers) - 1)
-  pub scans : g .result .scans ≤ greater (length (g .detScores)) (length trackers) * (greater (length (g .detScores)) (length trackers) - 1) / 2
+  pub turns : g .result .turns ≤ 2 * max (length (g .detScores)) (length trackers) * (max (length (g .detScores)) (length trackers) - 1)
+  pub scans : g .result .scans ≤ max (length (g .detScores)) (length trackers) * (max (length (g .detScores)) (length trackers) - 1) / 2

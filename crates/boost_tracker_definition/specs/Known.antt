@@ -1,4 +1,4 @@
--- Document 01's first example, computed by the definition: the box 10, 20, 32, 64 with score 0.75, alone in frame 1 of an empty table. A box below the threshold starts no track.
+-- Document 01's first example, computed by the definition: the box 10, 20, 32, 64 with score 0.75, alone in frame 1 of an empty table. A box below the threshold starts no track, and one at the threshold does.
 use mathlib.Core.Path.{_≡_, refl}
 use mathlib.Core.List.{List, [], _∷_, map}
 use Prim.Native.Nat.{ℕ}
@@ -12,7 +12,7 @@ use Rattle.strack.specs.Rect.{widthOf}
 use Rattle.strack.specs.Strack.{new as newTrack, getState, confidence}
 use Rattle.assoc.specs.Association.{associate}
 use Rattle.boost_tracker_table.specs.declared.settings.Settings.{Settings}
-use Rattle.boost_tracker_table.specs.declared.sound.State.{State}
+use Rattle.boost_tracker_verdict.specs.declared.sound.State.{State}
 use Rattle.boost_tracker_table.specs.Settings.{new}
 use Rattle.boost_tracker_table.specs.Table.{Track}
 use Rattle.boost_tracker_table.specs.Record.{recordOf}
@@ -42,6 +42,6 @@ abbrev first : ℕ → Stages
 first score = update settings empty (box score) []
 
 pub known : (map shown (first 0x3f40_0000 .output) ≡ (1 ∷ 1 ∷ 0x4120_0000 ∷ 0x41a0_0000 ∷ 0x4200_0000 ∷ 0x4280_0000 ∷ 0x3ef4_e351 ∷ []) ∷ []) × (counts (first 0x3f40_0000) ≡ 1 ∷ 1 ∷ 1 ∷ [])
-    × (counts (first 0x3f00_0000) ≡ 0 ∷ 0 ∷ 1 ∷ [])
+    × (counts (first 0x3f00_0000) ≡ 0 ∷ 0 ∷ 1 ∷ []) × (counts (first 0x3f19_999a) ≡ 1 ∷ 1 ∷ 1 ∷ [])
 unfolding update steps bboxes scores trks confs afterDlo afterDuo remainInds detBboxes detScores mhDist result associate matched started tab rows sieve recordOf newTrack getState widthOf confidence powi ofBits toBits add sub mul div le
-known = (refl, refl, refl)
+known = (refl, refl, refl, refl)

@@ -13,21 +13,21 @@ use Rattle.laws.specs.Grid.{grid}
 use Rattle.strack.specs.declared.rect.Xyxy.{Xyxy}
 use Rattle.strack.specs.Rect.{getXyxy}
 use Rattle.strack.specs.Strack.{new, predict, getState, getConfidence}
-use Rattle.assoc_similarity.specs.declared.cost.AssociateParams.{AssociateParams}
+use Rattle.assoc.specs.declared.cost.AssociateParams.{AssociateParams}
 use Rattle.boost_tracker_dlo.specs.declared.dlo.DloSettings.{DloSettings}
 use Rattle.boost_tracker_dlo.specs.MhDist.{det, getMhDistMatrix}
 use Rattle.boost_tracker_dlo.specs.Dlo.{dloConfidenceBoost}
 use Rattle.records.specs.BoxRecord.{boxValues}
 use Rattle.boost_tracker_duo.specs.Duo.{duoConfidenceBoost}
 use Rattle.assoc_matching.specs.Matching.{Pair}
-use Rattle.assoc_matching.specs.Assignment.{Assignment}
+use Rattle.assoc_assignment.specs.Assignment.{Assignment}
 use Rattle.assoc.specs.Association.{associate}
 use Rattle.boost_tracker_table.specs.declared.settings.Settings.{Settings}
-use Rattle.boost_tracker_table.specs.declared.sound.State.{State}
+use Rattle.boost_tracker_verdict.specs.declared.sound.State.{State}
 use Rattle.boost_tracker_table.specs.Table.{Track, blank, corrected, retained}
 use Rattle.boost_tracker_table.specs.Record.{nineTenths}
 use Rattle.boost_tracker_table.specs.Emission.{emitted}
-use Rattle.boost_tracker_table.specs.Verdict.{boxesIn}
+use Rattle.boost_tracker_verdict.specs.Verdict.{boxesIn}
 
 -- ---- the objects, lines 267-274
 

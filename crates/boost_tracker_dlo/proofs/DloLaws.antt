@@ -15,13 +15,13 @@ use Rattle.laws.specs.Fold.{fold-ext}
 use Rattle.laws.specs.Scan.{scan-ext, lowest}
 use Rattle.laws.specs.Grid.{grid, cellAt, grid-at}
 use Rattle.floats.specs.Pick.{larger}
-use Rattle.floats.specs.Single.{zero as 0·0, one}
+use Rattle.floats.specs.Single.{plusZero as 0·0, one}
 use Rattle.assoc_similarity.specs.Overlap.{iouBatch, softBiouBatch}
 use Rattle.assoc_similarity.specs.Shape.{shapeSimilarityV1, shapeSimilarityV2}
 use Rattle.assoc_similarity.specs.Mahalanobis.{mhDistSimilarity}
-use Rattle.assoc_similarity.specs.declared.refusal.Refusal.{Refusal}
-use Rattle.assoc_similarity.specs.declared.refusal.Verdict.{Verdict}
-use Rattle.assoc_similarity.specs.declared.refusal.Verdict.the-variants.{Accepted, Refused}
+use Rattle.refusals.specs.declared.refusal.Refusal.{Refusal}
+use Rattle.refusals.specs.declared.refusal.Verdict.{Verdict}
+use Rattle.refusals.specs.declared.refusal.Verdict.the-variants.{Accepted, Refused}
 use Rattle.assoc_similarity.specs.Sizes.{after}
 use Rattle.boost_tracker_dlo.specs.declared.dlo.DloSettings.{DloSettings}
 use Rattle.boost_tracker_dlo.specs.Dlo.{similarity, threshold, maxS, coefficient, soft, shouldBoost, varying, boosted, dloConfidenceBoost}

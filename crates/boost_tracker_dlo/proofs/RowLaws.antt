@@ -1,12 +1,12 @@
 -- The matrices that only the rich similarity reads, for one box. Assumes nothing.
 use mathlib.Core.Path.{_≡_}
 use mathlib.Core.List.{List}
-use Prim.Native.Nat.{ℕ, _+_, _*_, _≤_, _<_}
+use Prim.Native.Nat.{ℕ, _*_, _≤_}
 use native.Mathlib.Omega.{arith}
 use lib.ListN.{take, drop}
 use lib.Ieee.{Float}
 use borrow.Author.Tests.{eq-eqb, le-ltb}
-use Rattle.assoc_similarity.specs.declared.refusal.Verdict.the-variants.{Accepted}
+use Rattle.refusals.specs.declared.refusal.Verdict.the-variants.{Accepted}
 use Rattle.assoc_similarity.specs.Sizes.{ofConfidences}
 use Rattle.assoc_similarity.specs.Overlap.{softBiouBatch}
 use Rattle.assoc_similarity.specs.Shape.{shapeSimilarityV1, shapeSimilarityV2}

@@ -1,16 +1,16 @@
 -- What an accepted call knows of its sizes, and sizes with which a call of a matrix routine is accepted. Assumes nothing.
 use mathlib.Core.Path.{_≡_}
 use mathlib.Core.Bool.{false, not, _||_}
-use Prim.Native.Nat.{ℕ, _*_, _≤_}
+use Prim.Native.Nat.{ℕ, _*_}
 use lib.Dec.{ltb, eqb}
 use borrow.Author.Tests.{ltb-false, le-ltb}
 use Rattle.laws.specs.Tests.{or-none}
-use Rattle.assoc_similarity.specs.declared.refusal.Verdict.the-variants.{Accepted}
-use Rattle.assoc_similarity.specs.Refusal.{tooMany}
+use Rattle.refusals.specs.declared.refusal.Verdict.the-variants.{Accepted}
+use Rattle.refusals.specs.Refusal.{tooMany}
 use Rattle.assoc_similarity.specs.Sizes.{ofCells}
-use Rattle.assoc_similarity.proofs.Laws.{passed, few-sides, same-size}
+use Rattle.refusals.proofs.Laws.{passed, few-sides, same-size}
 use Rattle.boost_tracker_boosts.specs.Sizes.{otherBoxes}
-use Rattle.boost_tracker_boosts.specs.Laws.{boxes-fit}
+use Rattle.boost_tracker_boosts.proofs.Laws.{boxes-fit}
 use Rattle.boost_tracker_dlo.specs.Sizes.{ofStates, ofDlo, otherTracks}
 use Rattle.boost_tracker_dlo.specs.Private.{Stated, Measured, DloReady}
 

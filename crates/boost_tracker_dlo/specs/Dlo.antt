@@ -12,7 +12,7 @@ use Rattle.laws.specs.Fold.{fold}
 use Rattle.laws.specs.Scan.{lowest}
 use Rattle.floats.specs.Pick.{larger}
 use Rattle.floats.specs.Power.{powf15}
-use Rattle.floats.specs.Single.{_⊕_, _⊖_, _⊗_, _⊘_, zero, one}
+use Rattle.floats.specs.Single.{_⊕_, _⊖_, _⊗_, _⊘_, plusZero, one}
 use Rattle.assoc_similarity.specs.Overlap.{iouBatch, softBiouBatch}
 use Rattle.assoc_similarity.specs.Shape.{shapeSimilarityV1, shapeSimilarityV2}
 use Rattle.assoc_similarity.specs.Mahalanobis as Mahalanobis
@@ -56,7 +56,7 @@ threshold timeSinceUpdate = larger (thresholdS ⊖ tsu timeSinceUpdate ⊗ alpha
 
 module _ (self : DloSettings) (similarity : ℕ → ℕ → Float) (timeSinceUpdate : ℕ → ℕ) (dets trks : ℕ) where
   unfoldable pub maxS : ℕ → Float
-  maxS i = fold (λ maxS j. larger maxS (similarity i j)) zero trks
+  maxS i = fold (λ maxS j. larger maxS (similarity i j)) plusZero trks
 
   -- the simple boost, by a coefficient
   unfoldable pub coefficient : List Float → List Float

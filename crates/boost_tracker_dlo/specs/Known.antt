@@ -3,7 +3,7 @@ use mathlib.Core.Path.{_≡_, refl}
 use mathlib.Core.Bool.{Bool, true, false}
 use mathlib.Core.List.{List, [], _∷_, map}
 use Prim.Native.Nat.{ℕ}
-use lib.Ieee.{Float, binary32, ofBits, toBits, ofInt, isNan, add, sub, mul, div, sum, neg, lt, le, eq, round, units, odd, size, climb, span, ofFields}
+use lib.Ieee.{ofBits, toBits, ofInt, isNan, add, sub, mul, div, sum, neg, lt, le, eq, round, units, odd, size, climb, span, ofFields}
 use Rattle.laws.specs.Tab.{tab}
 use Rattle.laws.specs.Fold.{fold}
 use Rattle.laws.specs.Scan.{scan}
@@ -46,5 +46,6 @@ rows =
     ∷ []
 
 pub known : map (λ (row : List ℕ × List ℕ). row .0) rows ≡ map (λ (row : List ℕ × List ℕ). row .1) rows
-unfolding tab fold scan larger smaller abs root powf15 exp intersection union ratio overlap softBiou shapeV1 shapeV2 normalized shared reciprocal similarity threshold maxS coefficient soft shouldBoost varying boosted dloConfidenceBoost ofBits toBits ofInt isNan add sub mul div sum neg lt le eq round units odd size climb span ofFields
+unfolding tab fold scan larger smaller abs root powf15 exp intersection union ratio overlap softBiou shapeV1 shapeV2 normalized shared reciprocal similarity threshold maxS coefficient soft
+    shouldBoost varying boosted dloConfidenceBoost ofBits toBits ofInt isNan add sub mul div sum neg lt le eq round units odd size climb span ofFields
 known = refl

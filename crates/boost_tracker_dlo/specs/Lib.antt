@@ -1,5 +1,5 @@
 -- The distances and the DLO boost of the scores, as they are called within a frame. MhDist and Dlo are the definitions, a file for each method of the Rust; Sizes says when a call is accepted,
--- Laws what the layer above wants of the definitions, and Known computes examples. Private is only for the contracts between private functions.
+-- and Known computes examples. Private is only for the contracts between private functions.
 --
 -- For n boxes and m tracks a caller lends flat slices. Of the boxes: four corners each, and the scores, which the boost changes in place.
 -- Of the tracks, after predict, in one pass over them: corners (get_state), x (get_kf_state) and sigma (sigma_inv), four each; confidence, and time since update as u32.
@@ -7,6 +7,5 @@
 pub mod MhDist
 pub mod Dlo
 pub mod Sizes
-pub mod Laws
 pub mod Known
 pub mod Private

@@ -7,10 +7,10 @@ use lib.ListN.{getD}
 use lib.Ieee.{Float, nan, lt, binary32, ofBits}
 use Rattle.laws.specs.Fold.{fold}
 use Rattle.strack.specs.declared.rect.Xyxy.{Xyxy}
-use Rattle.strack.specs.declared.kalman_filter.DetectBox.{DetectBox}
+use Rattle.strack_filter.specs.declared.kalman_filter.DetectBox.{DetectBox}
 use Rattle.strack.specs.declared.strack.KalmanBoxTracker.{KalmanBoxTracker}
 use Rattle.strack.specs.Strack.{convertBboxToZ, getKfState, getKfCovarianceDiag}
-use Rattle.floats.specs.Single.{_⊕_, _⊖_, _⊗_, _⊘_, zero, one}
+use Rattle.floats.specs.Single.{_⊕_, _⊖_, _⊗_, _⊘_, plusZero, one}
 
 abbrev pub nDims : ℕ
 nDims = 4
@@ -49,7 +49,7 @@ sigmaInv trackers i j = getD (row (reciprocals (getKfCovarianceDiag (trackers i)
 
 -- dist: the sum over k of (z - x)^2 * sigma_inv
 unfoldable pub mhDist : (ℕ → ℕ → Float) → (ℕ → ℕ → Float) → (ℕ → ℕ → Float) → ℕ → ℕ → Float
-mhDist z x sigmaInv i j = fold (λ dist k. dist ⊕ (z i k ⊖ x j k) ⊗ (z i k ⊖ x j k) ⊗ sigmaInv j k) zero nDims
+mhDist z x sigmaInv i j = fold (λ dist k. dist ⊕ (z i k ⊖ x j k) ⊗ (z i k ⊖ x j k) ⊗ sigmaInv j k) plusZero nDims
 
 abbrev pub getMhDistMatrix : List Float → (ℕ → KalmanBoxTracker) → ℕ → ℕ → Float
 getMhDistMatrix detections trackers = mhDist (z detections) (x trackers) (sigmaInv trackers)

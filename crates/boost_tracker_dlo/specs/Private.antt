@@ -10,8 +10,8 @@ use Rattle.laws.specs.Fold.{fold}
 use Rattle.laws.specs.Scan.{lowest}
 use Rattle.floats.specs.Pick.{larger}
 use Rattle.floats.specs.Power.{powf15}
-use Rattle.strack.specs.declared.kalman_filter.DetectBox.{DetectBox}
-use Rattle.floats.specs.Single.{_⊕_, _⊖_, _⊗_, _⊘_, zero, one}
+use Rattle.strack_filter.specs.declared.kalman_filter.DetectBox.{DetectBox}
+use Rattle.floats.specs.Single.{_⊕_, _⊖_, _⊗_, _⊘_, plusZero, one}
 use Rattle.assoc_similarity.specs.Overlap.{iouBatch, softBiouBatch}
 use Rattle.laws.specs.Grid.{grid}
 use Rattle.assoc_similarity.specs.Shape.{shapeSimilarityV1, shapeSimilarityV2}
@@ -27,7 +27,7 @@ part z x sigma = (z ⊖ x) ⊗ (z ⊖ x) ⊗ sigma
 -- the distance of a state and track j, written out
 abbrev pub distanceTo : DetectBox → List Float → List Float → ℕ → Float
 distanceTo z x sigma j =
-    zero ⊕ part (z .x) (getD x (j * 4) nan) (getD sigma (j * 4) nan)
+    plusZero ⊕ part (z .x) (getD x (j * 4) nan) (getD sigma (j * 4) nan)
     ⊕ part (z .y) (getD x (j * 4 + 1) nan) (getD sigma (j * 4 + 1) nan)
     ⊕ part (z .h) (getD x (j * 4 + 2) nan) (getD sigma (j * 4 + 2) nan)
     ⊕ part (z .r) (getD x (j * 4 + 3) nan) (getD sigma (j * 4 + 3) nan)
@@ -51,7 +51,7 @@ unfoldable pub rowSimilarity : DloSettings → List Float → List Float → Lis
 rowSimilarity q det trks confs mhd j = cond (q .rich) (third (mhd j) (shapeRow (q .corrected) det trks j) (softBiouBatch det trks confs 0 j)) (iouBatch det trks 0 j)
 
 abbrev pub mostOf : (ℕ → Float) → ℕ → Float
-mostOf row tracks = fold (λ most j. larger most (row j)) zero tracks
+mostOf row tracks = fold (λ most j. larger most (row j)) plusZero tracks
 
 abbrev pub softScore : Float → Float → Float
 softScore score maxS = larger score (alpha ⊗ score ⊕ (one ⊖ alpha) ⊗ powf15 maxS)

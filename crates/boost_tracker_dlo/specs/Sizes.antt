@@ -3,8 +3,8 @@
 use mathlib.Core.Bool.{Bool, not, _||_}
 use Prim.Native.Nat.{ℕ, _*_}
 use lib.Dec.{ltb, eqb}
-use Rattle.assoc_similarity.specs.declared.refusal.Verdict.{Verdict}
-use Rattle.assoc_similarity.specs.Refusal.{tooMany, verdict}
+use Rattle.refusals.specs.declared.refusal.Verdict.{Verdict}
+use Rattle.refusals.specs.Refusal.{tooMany, verdict}
 use Rattle.boost_tracker_boosts.specs.Sizes.{otherBoxes}
 
 abbrev pub ofStates : ℕ → ℕ → ℕ → ℕ → ℕ → ℕ → Verdict

@@ -1,7 +1,7 @@
 // The boost of boxes that are like a track: dlo_confidence_boost of boost_tracker.rs, a row of similarities at a time.
 use super::sizes::of_dlo;
-use assoc_similarity::Verdict;
 use boost_tracker_boosts::largest;
+use refusals::Verdict;
 ghost use mathlib.Core.Path.{_≡_};
 ghost use mathlib.Core.Bool.{cond};
 ghost use Prim.Native.Nat.{_+_, _-_, _≤_};

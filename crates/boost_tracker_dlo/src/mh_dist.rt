@@ -1,9 +1,9 @@
 // The distances of boxes and tracks: get_mh_dist_matrix of boost_tracker.rs.
 use super::sizes::of_states;
-use assoc_similarity::Verdict;
-use strack::kalman_filter::DetectBox;
+use refusals::Verdict;
 use strack::rect::Xyxy;
 use strack::strack::KalmanBoxTracker;
+use strack_filter::kalman_filter::DetectBox;
 ghost use mathlib.Core.Path.{_≡_};
 ghost use Prim.Native.Nat.{_+_, _*_, _≤_};
 ghost use lib.ListN.{length};

@@ -1,8 +1,8 @@
 // The verdict on a call, from its sides and the lengths of its slices.
-use assoc_similarity::Refusal;
-use assoc_similarity::Verdict;
 use boost_tracker_boosts::of_boost;
 use boost_tracker_boosts::too_many;
+use refusals::Refusal;
+use refusals::Verdict;
 ghost use mathlib.Core.Path.{_≡_};
 ghost use Prim.Native.Nat.{_≤_};
 ghost use Rattle.boost_tracker_dlo.specs.Sizes as Sizes;

@@ -3,11 +3,11 @@ use mathlib.Core.Path.{_≡_}
 use Prim.Native.Nat.{ℕ, _*_}
 use lib.Dec.{ltb}
 use borrow.Author.Tests.{ltb-false}
-use Rattle.assoc_similarity.specs.declared.refusal.Verdict.the-variants.{Accepted}
-use Rattle.assoc_similarity.specs.Refusal.{tooMany}
-use Rattle.assoc_similarity.proofs.Laws.{passed, few-sides}
+use Rattle.refusals.specs.declared.refusal.Verdict.the-variants.{Accepted}
+use Rattle.refusals.specs.Refusal.{tooMany}
+use Rattle.refusals.proofs.Laws.{passed, few-sides}
 use Rattle.boost_tracker_boosts.specs.Sizes.{ofBoost, otherBoxes}
-use Rattle.boost_tracker_boosts.specs.Laws.{boxes-fit}
+use Rattle.boost_tracker_boosts.proofs.Laws.{boxes-fit}
 use Rattle.boost_tracker_duo.specs.Private.{DuoReady}
 
 pub duo-ready : (boxes tracks detections distance scores : ℕ) → ofBoost boxes tracks detections distance scores ≡ Accepted → DuoReady tracks detections distance scores × (scores ≡ boxes)

@@ -4,7 +4,7 @@ use mathlib.Core.Bool.{cond}
 use mathlib.Core.List.{List, [], _∷_, _++_, map}
 use Prim.Native.Nat.{ℕ}
 use lib.Dec.{eqb}
-use lib.Ieee.{Float, binary32, ofBits, toBits, ofInt, isNan, add, sub, mul, div, sum, neg, lt, le, eq, round, units, odd, size, climb, span, ofFields}
+use lib.Ieee.{Float, ofBits, toBits, ofInt, isNan, add, sub, mul, div, sum, neg, lt, le, eq, round, units, odd, size, climb, span, ofFields}
 use Rattle.laws.specs.Tab.{tab}
 use Rattle.laws.specs.Fold.{fold}
 use Rattle.laws.specs.Sieve.{sieve}
@@ -37,5 +37,6 @@ rows =
     ∷ []
 
 pub known : map (λ (row : List ℕ × List ℕ). row .0) rows ≡ map (λ (row : List ℕ × List ℕ). row .1) rows
-unfolding tab fold sieve elem larger smaller intersection union ratio overlap minMhDist isCandidate boostCandidates bdiou bdiouMax remaining args tmp argsSet argsTmp confMax isMost remainingBoxes masked duoConfidenceBoost ofBits toBits ofInt isNan add sub mul div sum neg lt le eq round units odd size climb span ofFields
+unfolding tab fold sieve elem larger smaller intersection union ratio overlap minMhDist isCandidate boostCandidates bdiou bdiouMax remaining args tmp argsSet argsTmp confMax
+    isMost remainingBoxes masked duoConfidenceBoost ofBits toBits ofInt isNan add sub mul div sum neg lt le eq round units odd size climb span ofFields
 known = refl

@@ -1,8 +1,8 @@
 // The boost of boxes that are far from every track: duo_confidence_boost of boost_tracker.rs. The candidates, their corners, their largest overlaps and
 // the marks of those that remain are local arrays; a row of overlaps is computed where it is needed.
-use assoc_similarity::Verdict;
 use boost_tracker_boosts::largest;
 use boost_tracker_boosts::of_boost;
+use refusals::Verdict;
 ghost use mathlib.Core.Path.{_≡_};
 ghost use mathlib.Core.Bool.{cond};
 ghost use Prim.Native.Nat.{_+_, _*_, _≤_, _<_};

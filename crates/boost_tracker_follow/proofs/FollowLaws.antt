@@ -2,8 +2,8 @@
 use mathlib.Core.Path.{_≡_, refl, sym, ap, _∙_}
 use mathlib.Core.Bool.{Bool, true, false, not, _&&_}
 use mathlib.Core.List.{List, [], _∷_, _++_, append-assoc, append-nil}
-use Prim.Native.Nat.{ℕ, zero, suc, _+_, _-_, _≤_, _<_, zero-le}
-use native.Mathlib.Nat.{le-refl, le-of-eq}
+use Prim.Native.Nat.{ℕ, _+_, _/_, _≤_, _<_, zero-le}
+use native.Mathlib.Nat.{le-of-eq}
 use native.Mathlib.Omega.{arith}
 use lib.ListN.{length, length-append, length-set, getD, take}
 use lib.Ieee.{Float}
@@ -15,8 +15,14 @@ use Rattle.strack.specs.declared.rect.Xyxy.{Xyxy}
 use Rattle.strack.specs.Strack.{new}
 use Rattle.boost_tracker_dlo.specs.MhDist.{det}
 use Rattle.boost_tracker_table.specs.Table.{Track, capacity, tracks, corrected, pushed, Laying}
-use Rattle.boost_tracker_table.specs.Laws.{low-room, tracks-many, lay-here, lay-lengths, lay-next, pushed-room}
-use Rattle.boost_tracker_follow.specs.Corrections.{inside, fits, followable}
+use Rattle.boost_tracker_table.proofs.Laws.{low-room, tracks-many, lay-here, lay-lengths, lay-next, pushed-room, laid-table}
+use Rattle.refusals.specs.declared.refusal.Refusal.the-variants.{OtherSize, TooShort}
+use Rattle.assoc_assignment.specs.declared.assignment.AssignmentCounts.{AssignmentCounts}
+use Rattle.assoc_assignment.specs.declared.assignment.AssignmentAnswer.{AssignmentAnswer}
+use Rattle.assoc_assignment.specs.declared.assignment.AssignmentAnswer.the-variants.{Assigned, Refused}
+use Rattle.boost_tracker_table.specs.Lent.{Table, tableWith, laidOver, callWith}
+use Rattle.boost_tracker_follow.specs.Corrections.{inside, fits, Listed, tracksAfter, followedListed, followed}
+use Rattle.boost_tracker_follow.proofs.FitLaws.{FollowRoom, fits-room, room-fits, listed-inside}
 use Rattle.boost_tracker_definition.specs.Plain.{correctedBy, correctOne, startedBy, startAt}
 use Rattle.boost_tracker_definition.proofs.PlainLaws.{correct-many, corrected-many}
 
@@ -94,32 +100,61 @@ module _ (last : ℕ) (corners : List Float) (unmatched : List ℕ) (held : ℕ)
 
 -- ---- both
 
-pub followed : (corners : List Float) (pairBoxes pairTracks unmatched : List ℕ) (last held : ℕ) {f₀ f₁ f₂ : List Float} {c₀ c₁ c₂ : List ℕ} → held ≤ capacity (length f₀) (length c₀)
+pub both-laid : (corners : List Float) (pairBoxes pairTracks unmatched : List ℕ) (last held : ℕ) {f₀ f₁ f₂ : List Float} {c₀ c₁ c₂ : List ℕ} → held ≤ capacity (length f₀) (length c₀)
     → Laying f₀ c₀ f₁ c₁ (correctedBy corners pairBoxes pairTracks (tracks f₀ c₀ held)) → Laying f₁ c₁ f₂ c₂ (tracks f₁ c₁ held ++ startedBy last corners unmatched)
     → Laying f₀ c₀ f₂ c₂ (correctedBy corners pairBoxes pairTracks (tracks f₀ c₀ held) ++ startedBy last corners unmatched)
-followed corners pairBoxes pairTracks unmatched last held {f₀} {f₁} {f₂} {c₀} {c₁} {c₂} room p q =
+both-laid corners pairBoxes pairTracks unmatched last held {f₀} {f₁} {f₂} {c₀} {c₁} {c₂} room p q =
     let xs : List Track = correctedBy corners pairBoxes pairTracks (tracks f₀ c₀ held) in
     lay-next p (λ ts. ts ++ startedBy last corners unmatched) (corrected-many corners pairBoxes pairTracks (tracks f₀ c₀ held) ∙ tracks-many f₀ c₀ held room) room q
     (rw (length-append xs (startedBy last corners unmatched)) (omega arith))
 
--- ---- the tests
+-- ---- the indices
 
-module _ {a b p q : Bool} (ea : a ≡ p) (eb : b ≡ q) where
-  pub not-both : not (a && b) ≡ true → false ≡ (p && q)
-  not-both h = rw (← ea, ← eb) (sym (not-true (a && b) h))
+module _ (held last : ℕ) (corners : List Float) (counts : AssignmentCounts) (pairBoxes pairTracks unmatched : List ℕ) (f : List Float) (c : List ℕ) {a b : Bool} (ea : a ≡ inside pairBoxes (length corners / 4))
+    (eb : b ≡ inside unmatched (length corners / 4)) where
+  -- some index is of no box
+  pub not-listed : not (a && b) ≡ true → callWith (Refused OtherSize) (tableWith f c) ≡ followedListed held last corners counts pairBoxes pairTracks unmatched (tableWith f c)
+  unfolding followedListed
+  not-listed h = rw (← ea, ← eb, not-true (a && b) h)
 
-  pub both : not (a && b) ≡ false → (p ≡ true) × (q ≡ true)
-  both h = let e = not-false (a && b) h in (sym ea ∙ and-left a b e, sym eb ∙ and-right a b e)
+  pub both-inside : not (a && b) ≡ false → (inside pairBoxes (length corners / 4) ≡ true) × (inside unmatched (length corners / 4) ≡ true)
+  both-inside h = let e = not-false (a && b) h in (sym ea ∙ and-left a b e, sym eb ∙ and-right a b e)
 
-module _ (held places last pairs started : ℕ) (pairBoxes : List ℕ) (pairTracks : ℕ) (unmatched : List ℕ) {r : Bool} {room : ℕ} (e : room ≡ places)
-    (h : r ≡ fits held room last pairs started (length pairBoxes) pairTracks (length unmatched)) where
-  pub fits-known : not r ≡ false → fits held places last pairs started (length pairBoxes) pairTracks (length unmatched) ≡ true
-  fits-known t = rw (← e) (sym h ∙ not-false r t)
+  pub listed : {f₁ f₂ : List Float} {c₁ c₂ : List ℕ} → not (a && b) ≡ false → held ≤ capacity (length f) (length c)
+      → Laying f c f₁ c₁ (correctedBy corners pairBoxes pairTracks (tracks f c held)) → Laying f₁ c₁ f₂ c₂ (tracks f₁ c₁ held ++ startedBy last corners unmatched)
+      → callWith (Assigned counts) (tableWith f₂ c₂) ≡ followedListed held last corners counts pairBoxes pairTracks unmatched (tableWith f c)
+  unfolding followedListed
+  listed h room p q =
+      let known = both-inside h in
+      rw (known .0, known .1) (ap (λ (t : Table). callWith (Assigned counts) t) (laid-table (both-laid corners pairBoxes pairTracks unmatched last held room p q)))
 
-  pub left-alone : (boxes : ℕ) → not r ≡ true → false ≡ followable held places last boxes pairs started pairBoxes pairTracks unmatched
-  unfolding followable
-  left-alone boxes t = let k : fits held places last pairs started (length pairBoxes) pairTracks (length unmatched) ≡ false = rw (← e) (sym h ∙ not-true r t) in rw k
+-- ---- a call
 
-  pub told-so : (boxes : ℕ) {q : Bool} → not r ≡ false → q ≡ (inside (take pairs pairBoxes) boxes && inside (take started unmatched) boxes) → q ≡ followable held places last boxes pairs started pairBoxes pairTracks unmatched
-  unfolding followable
-  told-so boxes {q} t k = rw (fits-known t) k
+module _ (held last : ℕ) (corners : List Float) (counts : AssignmentCounts) (pairBoxes pairTracks unmatched : List ℕ) (f : List Float) (c : List ℕ) where
+  abbrev fitting : Bool
+  fitting = fits held (capacity (length f) (length c)) last counts (length pairBoxes) (length pairTracks) (length unmatched)
+
+  module _ {r : Bool} {places : ℕ} (e : places ≡ capacity (length f) (length c)) (h : r ≡ fits held places last counts (length pairBoxes) (length pairTracks) (length unmatched)) where
+    known : r ≡ fitting
+    known = rw e at h
+
+    pub not-fitting : not r ≡ true → callWith (Refused TooShort) (tableWith f c) ≡ followed held last corners counts pairBoxes pairTracks unmatched (tableWith f c)
+    unfolding followed
+    not-fitting t = rw (sym known ∙ not-true r t)
+
+    pub room-of : not r ≡ false → FollowRoom held (capacity (length f) (length c)) last counts (length pairBoxes) (length pairTracks) (length unmatched)
+    room-of t = fits-room (sym known ∙ not-false r t)
+
+    pub follows : {f′ : List Float} {c′ : List ℕ} {q : AssignmentAnswer} → not r ≡ false
+        → callWith q (tableWith f′ c′) ≡ followedListed held last corners counts (take (counts .pairs) pairBoxes) (take (counts .pairs) pairTracks) (take (counts .detections) unmatched) (tableWith f c)
+        → callWith q (tableWith f′ c′) ≡ followed held last corners counts pairBoxes pairTracks unmatched (tableWith f c)
+    unfolding followed
+    follows t w = rw (sym known ∙ not-false r t) w
+
+  -- for callers, where it can be done
+  pub followed-is : FollowRoom held (capacity (length f) (length c)) last counts (length pairBoxes) (length pairTracks) (length unmatched)
+      → Listed (take (counts .pairs) pairBoxes) (length corners) → Listed (take (counts .detections) unmatched) (length corners)
+      → followed held last corners counts pairBoxes pairTracks unmatched (tableWith f c)
+      ≡ callWith (Assigned counts) (laidOver (tracksAfter held last corners (take (counts .pairs) pairBoxes) (take (counts .pairs) pairTracks) (take (counts .detections) unmatched) (tableWith f c)) (tableWith f c))
+  unfolding followed followedListed
+  followed-is room a b = rw (room-fits room, listed-inside (take (counts .pairs) pairBoxes) (length corners) a, listed-inside (take (counts .detections) unmatched) (length corners) b)

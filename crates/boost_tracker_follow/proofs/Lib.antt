@@ -1,2 +1,3 @@
--- Laws that the proofs of several functions cite.
+-- FitLaws has what the tests of `follow` tell; FollowLaws, what its loops know and what it leaves.
+pub mod FitLaws
 pub mod FollowLaws

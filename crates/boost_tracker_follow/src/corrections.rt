@@ -1,20 +1,22 @@
 // Steps 6 and 7 of a frame, what follows of its pairs: the tracks corrected by their boxes, and those started for the boxes without one.
+use assoc::AssignmentAnswer;
 use assoc::AssignmentCounts;
+use assoc::Refusal;
 use strack::rect::Xyxy;
 use strack::strack::KalmanBoxTracker;
 ghost use mathlib.Core.Path.{_≡_};
-ghost use mathlib.Core.Bool.{cond, _&&_};
 ghost use mathlib.Core.List.{_++_};
 ghost use Prim.Native.Nat.{_+_, _*_, _/_, _≤_, _<_, _^_};
 ghost use lib.Dec.{leb};
-ghost use lib.ListN.{length, getD, take};
+ghost use lib.ListN.{length, getD};
 ghost use Rattle.laws.specs.Scan.{lowest};
 ghost use Rattle.boost_tracker_dlo.specs.MhDist.{det};
 ghost use Rattle.boost_tracker_table.specs.Table as Table;
 ghost use Rattle.boost_tracker_table.specs.Table.{tracks, Laying};
+ghost use Rattle.boost_tracker_table.specs.Lent.{tableWith, callWith};
 ghost use Rattle.boost_tracker_definition.specs.Plain.{correctedBy, startedBy};
 ghost use Rattle.boost_tracker_follow.specs.Corrections as Follow;
-ghost use Rattle.boost_tracker_follow.specs.Corrections.{Listed, inside, followable};
+ghost use Rattle.boost_tracker_follow.specs.Corrections.{Listed, inside};
 
 // Box i of a list of corners.
 fn det(corners: &[f32], i: usize) -> Xyxy
@@ -115,7 +117,7 @@ fn fits(
     pair_tracks: usize,
     unmatched: usize,
 ) -> bool
-    ensures { λ r. ⌜ r ≡ Follow.fits held places last (counts .pairs) (counts .detections) «pair_boxes» «pair_tracks» unmatched ⌝ }
+    ensures { λ r. ⌜ r ≡ Follow.fits held places last counts «pair_boxes» «pair_tracks» unmatched ⌝ }
 {
     if held > places {
         return false;
@@ -125,35 +127,7 @@ fn fits(
         & ((counts.detections <= unmatched) & (last < 18446744073709551361))
 }
 
-// Where every index is of a box.
-fn follow_listed(
-    floats: &mut [f32],
-    counters: &mut [u64],
-    held: usize,
-    last: u64,
-    corners: &[f32],
-    pair_boxes: &[usize],
-    pair_tracks: &[usize],
-    unmatched: &[usize],
-) -> bool
-    requires sizes { ⌜ (held + length (now unmatched) ≤ Table.capacity (length (now floats)) (length (now counters))) × (last + 255 < 2 ^ 64) ⌝ }
-    requires halves { ⌜ length (now «pair_tracks») ≡ length (now «pair_boxes») ⌝ }
-    ensures told { λ r. ⌜ r ≡ (inside (now («pair_boxes» .entry)) (length (now (corners .entry)) / 4) && inside (now (unmatched .entry)) (length (now (corners .entry)) / 4)) ⌝ }
-    ensures laid { λ r. ⌜ Laying (now (floats .entry)) (now (counters .entry)) (now (floats .exit)) (now (counters .exit))
-        (cond r (correctedBy (now (corners .entry)) (now («pair_boxes» .entry)) (now («pair_tracks» .entry)) (tracks (now (floats .entry)) (now (counters .entry)) held)
-        ++ startedBy last (now (corners .entry)) (now (unmatched .entry))) (tracks (now (floats .entry)) (now (counters .entry)) held)) ⌝ }
-{
-    let boxes = corners.len() / 4;
-    let known = all_inside(pair_boxes, boxes) & all_inside(unmatched, boxes);
-    if !known {
-        return false;
-    }
-    correct_matched(floats, counters, held, corners, pair_boxes, pair_tracks);
-    start_unmatched(floats, counters, held, last, corners, unmatched);
-    true
-}
-
-// The matched tracks are corrected, and tracks started behind them. Whether that was done: counts, indices, places and ids have to fit, and where they do not the table is left.
+// The matched tracks are corrected, and tracks started behind them: the counts again. Counts, indices, places and ids have to fit; where they do not it is refused, and the table is left.
 pub fn follow(
     floats: &mut [f32],
     counters: &mut [u64],
@@ -164,11 +138,9 @@ pub fn follow(
     pair_boxes: &[usize],
     pair_tracks: &[usize],
     unmatched: &[usize],
-) -> bool
-    ensures told { λ r. ⌜ r ≡ followable held (Table.capacity (length (now (floats .entry))) (length (now (counters .entry)))) last (length (now (corners .entry)) / 4) (counts .pairs) (counts .detections) (now («pair_boxes» .entry)) (length (now («pair_tracks» .entry))) (now (unmatched .entry)) ⌝ }
-    ensures laid { λ r. ⌜ Laying (now (floats .entry)) (now (counters .entry)) (now (floats .exit)) (now (counters .exit))
-        (cond r (correctedBy (now (corners .entry)) (take (counts .pairs) (now («pair_boxes» .entry))) (take (counts .pairs) (now («pair_tracks» .entry))) (tracks (now (floats .entry)) (now (counters .entry)) held)
-        ++ startedBy last (now (corners .entry)) (take (counts .detections) (now (unmatched .entry)))) (tracks (now (floats .entry)) (now (counters .entry)) held)) ⌝ }
+) -> AssignmentAnswer
+    ensures { λ r. ⌜ callWith r (tableWith (now (floats .exit)) (now (counters .exit)))
+        ≡ Follow.followed held last (now (corners .entry)) counts (now («pair_boxes» .entry)) (now («pair_tracks» .entry)) (now (unmatched .entry)) (tableWith (now (floats .entry)) (now (counters .entry))) ⌝ }
 {
     let places = boost_tracker_table::capacity(floats.len(), counters.len());
     if !fits(
@@ -180,18 +152,23 @@ pub fn follow(
         pair_tracks.len(),
         unmatched.len(),
     ) {
-        return false;
+        return AssignmentAnswer::Refused(Refusal::TooShort);
     }
     let pairs = counts.pairs;
     let started = counts.detections;
-    follow_listed(
+    let boxes = corners.len() / 4;
+    let known = all_inside(&pair_boxes[..pairs], boxes) & all_inside(&unmatched[..started], boxes);
+    if !known {
+        return AssignmentAnswer::Refused(Refusal::OtherSize);
+    }
+    correct_matched(
         floats,
         counters,
         held,
-        last,
         corners,
         &pair_boxes[..pairs],
         &pair_tracks[..pairs],
-        &unmatched[..started],
-    )
+    );
+    start_unmatched(floats, counters, held, last, corners, &unmatched[..started]);
+    AssignmentAnswer::Assigned(counts)
 }

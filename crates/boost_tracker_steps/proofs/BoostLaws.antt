@@ -1,8 +1,9 @@
 -- The calls of the boosts are accepted, and over what was gathered they are the definition's. Assumes nothing.
-use mathlib.Core.Path.{_≡_, refl, ap, fun-ext, _∙_}
+use mathlib.Core.Path.{_≡_, refl, sym, ap, fun-ext, _∙_}
 use mathlib.Core.Bool.{Bool, true, false, cond, _&&_, _||_}
 use mathlib.Core.List.{List}
 use Prim.Native.Nat.{ℕ, _*_}
+use native.Mathlib.Omega.{arith}
 use lib.Dec.{ltb, eqb}
 use lib.ListN.{length, getD}
 use lib.Ieee.{Float, nan}
@@ -10,23 +11,37 @@ use borrow.Author.Tests.{le-ltb, eq-eqb}
 use Rattle.laws.specs.Packed.{packed}
 use Rattle.laws.specs.Grid.{grid, cellAt}
 use Rattle.strack.specs.Strack.{getKfState, getKfCovarianceDiag}
-use Rattle.assoc_similarity.specs.declared.refusal.Verdict.{Verdict}
-use Rattle.assoc_similarity.specs.declared.refusal.Verdict.the-variants.{Accepted}
+use Rattle.refusals.specs.declared.refusal.Verdict.{Verdict}
+use Rattle.refusals.specs.declared.refusal.Refusal.{Refusal}
+use Rattle.refusals.specs.declared.refusal.Verdict.the-variants.{Accepted, Refused}
 use Rattle.assoc_similarity.specs.Sizes.{after}
 use Rattle.boost_tracker_dlo.specs.MhDist as MhDist
 use Rattle.boost_tracker_dlo.specs.MhDist.{row, reciprocals, z, getMhDistMatrix}
 use Rattle.boost_tracker_dlo.specs.Dlo.{similarity, boosted, dloConfidenceBoost}
 use Rattle.boost_tracker_dlo.specs.Sizes.{ofStates, ofDlo}
-use Rattle.boost_tracker_dlo.specs.Laws.{mh-gathered, dlo-over}
+use Rattle.boost_tracker_dlo.proofs.Laws.{mh-gathered, dlo-over}
 use Rattle.boost_tracker_duo.specs.Duo.{duoConfidenceBoost}
 use Rattle.boost_tracker_boosts.specs.Sizes.{ofBoost, boostedBy}
-use Rattle.boost_tracker_duo.specs.Laws.{duo-over}
+use Rattle.boost_tracker_duo.proofs.Laws.{duo-over}
 use Rattle.boost_tracker_dlo.specs.declared.dlo.DloSettings.{DloSettings}
 use Rattle.boost_tracker_table.specs.declared.settings.Settings.{Settings}
 use Rattle.boost_tracker_table.specs.Table.{Track}
+use Rattle.boost_tracker_table.specs.Lent.{Call, callWith}
 use Rattle.boost_tracker_definition.specs.Update.{trackerAt, dloSettings, dlo, duo, afterDlo, afterDuo}
-use Rattle.boost_tracker_steps.specs.Private.{sinceOf, Distant, Scored}
+use Rattle.boost_tracker_steps.specs.Private.{accepted, sinceOf, Distant, Scored}
 use Rattle.boost_tracker_steps.proofs.GatherLaws.{since-at}
+
+-- ---- a stage
+
+-- one that is accepted is not refused
+pub never-refused : {L : Type 0} {v : Verdict} {why : Refusal} {l l′ : L} → callWith v l ≡ accepted l′ → v ≡ Refused why → ⊥
+never-refused {L} {v} {why} w e =
+    let clash : Accepted ≡ Refused why = sym (ap (λ (k : Call Verdict L). k .answer) w) ∙ e in
+    let z : _≡_ {A = ℕ} 0 1 = cc in
+    omega arith
+
+abbrev left : Call Verdict (List Float) → List Float
+left k = k .lent
 
 -- ---- distances
 
@@ -38,13 +53,15 @@ module _ (corners : List Float) (boxes held : ℕ) (out : List Float) (d : Dista
   pub distances-are : (trackers : ℕ → Track) (x₀ sigma₀ : List Float) {x sigma out′ : List Float} {r : Verdict}
       → x ≡ packed (λ j. row (getKfState (trackers j))) 4 x₀ held → sigma ≡ packed (λ j. row (reciprocals (getKfCovarianceDiag (trackers j)))) 4 sigma₀ held
       → length x ≡ held * 4 → length sigma ≡ held * 4 → r ≡ ofStates boxes held (length corners) (length x) (length sigma) (length out)
-      → out′ ≡ after r (MhDist.mhDist (z corners) (cellAt nan 4 x) (cellAt nan 4 sigma)) boxes held out → out′ ≡ grid (getMhDistMatrix corners trackers) boxes held out
+      → out′ ≡ after r (MhDist.mhDist (z corners) (cellAt nan 4 x) (cellAt nan 4 sigma)) boxes held out → callWith r out′ ≡ accepted (grid (getMhDistMatrix corners trackers) boxes held out)
   distances-are trackers x₀ sigma₀ {x} {sigma} {out′} {r} ex es lx ls er eo =
       let a : r ≡ Accepted = er ∙ states-accepted x sigma lx ls in
       let stored : out′ ≡ grid (MhDist.mhDist (z corners) (cellAt nan 4 x) (cellAt nan 4 sigma)) boxes held out = eo ∙ ap (λ (v : Verdict). after v (MhDist.mhDist (z corners) (cellAt nan 4 x) (cellAt nan 4 sigma)) boxes held out) a in
+      let cells : out′ ≡ grid (getMhDistMatrix corners trackers) boxes held out =
       stored ∙ ap (λ (y : List Float). grid (MhDist.mhDist (z corners) (cellAt nan 4 y) (cellAt nan 4 sigma)) boxes held out) ex
       ∙ ap (λ (y : List Float). grid (MhDist.mhDist (z corners) (cellAt nan 4 (packed (λ j. row (getKfState (trackers j))) 4 x₀ held)) (cellAt nan 4 y)) boxes held out) es
-      ∙ mh-gathered corners trackers x₀ sigma₀ out boxes held
+      ∙ mh-gathered corners trackers x₀ sigma₀ out boxes held in
+      rw (a, cells)
 
 -- ---- DLO
 
@@ -80,24 +97,29 @@ module _ (self : Settings) (corners trks confs : List Float) (cell : ℕ → ℕ
       by-cases false h = poor (dloSettings self) h corners trks confs (cellAt nan held work′) cell since boxes held scores
 
 module _ (self : Settings) (corners trks confs : List Float) (ts : List Track) (held : ℕ) (many : length ts ≡ held) (work scores : List Float) where
-  pub dlo-is : {floats counters : ℕ} {times : List ℕ} {work′ scores′ : List Float} {q : DloSettings} {r : Verdict} → Scored held floats counters (length corners) (length trks) (length confs) (length work) (length scores)
-      → q ≡ dloSettings self → times ≡ sinceOf ts → length times ≡ held → work′ ≡ cond (self .«use_rich_similarity») (grid (getMhDistMatrix corners (trackerAt ts)) (length scores) held work) work → length work′ ≡ length work
+  pub dlo-is : {floats counters : ℕ} {times : List ℕ} {work′ scores′ : List Float} {q : DloSettings} {v r : Verdict} → Scored held floats counters (length corners) (length trks) (length confs) (length work) (length scores)
+      → q ≡ dloSettings self → times ≡ sinceOf ts → length times ≡ held
+      → callWith v work′ ≡ accepted (cond (self .«use_rich_similarity») (grid (getMhDistMatrix corners (trackerAt ts)) (length scores) held work) work) → length work′ ≡ length work
       → r ≡ ofDlo (length scores) held (length corners) (length trks) (length confs) (length times) (length work′) (length scores)
-      → scores′ ≡ boostedBy r (dloConfidenceBoost q corners trks confs (cellAt nan held work′) (λ j. getD times j 0) (length scores) held scores) scores → scores′ ≡ dlo self corners trks confs ts scores
+      → scores′ ≡ boostedBy r (dloConfidenceBoost q corners trks confs (cellAt nan held work′) (λ j. getD times j 0) (length scores) held scores) scores
+      → callWith r scores′ ≡ accepted (dlo self corners trks confs ts scores)
   unfolding dlo
-  dlo-is {floats} {counters} {times} {work′} {scores′} {q} {r} w eq et lt ew lw er es =
+  dlo-is {floats} {counters} {times} {work′} {scores′} {q} {v} {r} w eq et lt ew lw er es =
       let a : r ≡ Accepted = er ∙ rw (lt, lw) (dlo-accepted held floats counters (length corners) (length trks) (length confs) (length work) (length scores) w) in
       let stored : scores′ ≡ dloConfidenceBoost q corners trks confs (cellAt nan held work′) (λ j. getD times j 0) (length scores) held scores =
       es ∙ ap (λ (v : Verdict). boostedBy v (dloConfidenceBoost q corners trks confs (cellAt nan held work′) (λ j. getD times j 0) (length scores) held scores) scores) a in
       let times-are : _≡_ {A = ℕ → ℕ} (λ j. getD times j 0) (λ j. trackerAt ts j .since) = fun-ext (λ j. ap (λ (l : List ℕ). getD l j 0) et ∙ since-at ts j) in
-      stored ∙ rw (eq, times-are, many) (rich-or-poor self corners trks confs (getMhDistMatrix corners (trackerAt ts)) (λ j. trackerAt ts j .since) (length scores) held work scores ew)
+      let boosts : scores′ ≡ dlo self corners trks confs ts scores =
+      stored ∙ rw (eq, times-are, many) (rich-or-poor self corners trks confs (getMhDistMatrix corners (trackerAt ts)) (λ j. trackerAt ts j .since) (length scores) held work scores (ap left ew)) in
+      rw (a, boosts)
 
   -- the test, and where it fails
-  pub dlo-done : {scores′ : List Float} → (self .«use_dlo_boost» && ltb 0 held) ≡ true → scores′ ≡ dlo self corners trks confs ts scores → scores′ ≡ afterDlo self corners trks confs ts scores
+  pub dlo-done : {r : Verdict} {scores′ : List Float} → (self .«use_dlo_boost» && ltb 0 held) ≡ true → callWith r scores′ ≡ accepted (dlo self corners trks confs ts scores)
+      → callWith r scores′ ≡ accepted (afterDlo self corners trks confs ts scores)
   unfolding afterDlo
   dlo-done h e = rw (many, h) e
 
-  pub dlo-left : (self .«use_dlo_boost» && ltb 0 held) ≡ false → scores ≡ afterDlo self corners trks confs ts scores
+  pub dlo-left : (self .«use_dlo_boost» && ltb 0 held) ≡ false → accepted scores ≡ accepted (afterDlo self corners trks confs ts scores)
   unfolding afterDlo
   dlo-left h = rw (many, h)
 
@@ -108,17 +130,28 @@ duo-accepted boxes held corners work w =
     rw (le-ltb 255 boxes (w .few-boxes), le-ltb 255 held (w .few-tracks), eq-eqb corners (boxes * 4) (w .corners-fit), eq-eqb boxes boxes refl, le-ltb work (boxes * held) (w .room))
 
 module _ (self : Settings) (frame : ℕ) (corners : List Float) (ts : List Track) (held : ℕ) (many : length ts ≡ held) (work scores : List Float) where
-  pub duo-is : {work′ scores′ : List Float} {r : Verdict} → Distant (length scores) held (length corners) (length work)
-      → (self .«use_duo_boost» && ltb 0 held) ≡ true → work′ ≡ grid (getMhDistMatrix corners (trackerAt ts)) (length scores) held work → length work′ ≡ length work
+  pub duo-is : {work′ scores′ : List Float} {v r : Verdict} → Distant (length scores) held (length corners) (length work)
+      → (self .«use_duo_boost» && ltb 0 held) ≡ true → callWith v work′ ≡ accepted (grid (getMhDistMatrix corners (trackerAt ts)) (length scores) held work) → length work′ ≡ length work
       → r ≡ ofBoost (length scores) held (length corners) (length work′) (length scores)
-      → scores′ ≡ boostedBy r (duoConfidenceBoost frame (self .«det_thresh») corners (cellAt nan held work′) (length scores) held scores) scores → scores′ ≡ afterDuo self frame corners ts scores
+      → scores′ ≡ boostedBy r (duoConfidenceBoost frame (self .«det_thresh») corners (cellAt nan held work′) (length scores) held scores) scores
+      → callWith r scores′ ≡ accepted (afterDuo self frame corners ts scores)
   unfolding afterDuo duo
-  duo-is {work′} {scores′} {r} w h ew lw er es =
+  duo-is {work′} {scores′} {v} {r} w h ew lw er es =
       let a : r ≡ Accepted = er ∙ rw lw (duo-accepted (length scores) held (length corners) (length work) w) in
       let stored : scores′ ≡ duoConfidenceBoost frame (self .«det_thresh») corners (cellAt nan held work′) (length scores) held scores =
       es ∙ ap (λ (v : Verdict). boostedBy v (duoConfidenceBoost frame (self .«det_thresh») corners (cellAt nan held work′) (length scores) held scores) scores) a in
-      stored ∙ rw (many, h, ew) (duo-over frame (self .«det_thresh») corners (getMhDistMatrix corners (trackerAt ts)) work (length scores) held scores)
+      let boosts : scores′ ≡ afterDuo self frame corners ts scores =
+      stored ∙ rw (many, h, ap left ew) (duo-over frame (self .«det_thresh») corners (getMhDistMatrix corners (trackerAt ts)) work (length scores) held scores) in
+      rw (a, boosts)
 
-  pub duo-left : (self .«use_duo_boost» && ltb 0 held) ≡ false → scores ≡ afterDuo self frame corners ts scores
+  pub duo-left : (self .«use_duo_boost» && ltb 0 held) ≡ false → accepted scores ≡ accepted (afterDuo self frame corners ts scores)
   unfolding afterDuo
   duo-left h = rw (many, h)
+
+-- ---- both
+
+-- DUO of the scores that DLO left
+pub boosts-are : (self : Settings) (frame : ℕ) (corners trks confs : List Float) (ts : List Track) (scores : List Float) {scores₁ scores₂ : List Float} {v r : Verdict}
+    → callWith v scores₁ ≡ accepted (afterDlo self corners trks confs ts scores) → callWith r scores₂ ≡ accepted (afterDuo self frame corners ts scores₁)
+    → callWith r scores₂ ≡ accepted (afterDuo self frame corners ts (afterDlo self corners trks confs ts scores))
+boosts-are self frame corners trks confs ts scores d w = w ∙ ap (λ (l : List Float). accepted (afterDuo self frame corners ts l)) (ap left d)

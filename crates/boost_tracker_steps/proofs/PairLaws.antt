@@ -1,67 +1,149 @@
 -- The association of a frame is accepted, and over distances that lie in the front of the work slice it is the definition's. Assumes nothing.
-use mathlib.Core.Path.{_≡_, refl, ap, _∙_}
+use mathlib.Core.Path.{_≡_, refl, sym, ap, _∙_}
 use mathlib.Core.Bool.{Bool, true, false, _&&_}
 use mathlib.Core.List.{List}
-use Prim.Native.Nat.{ℕ, _*_, _≤_}
-use native.Mathlib.Nat.{le-refl}
+use Prim.Native.Nat.{ℕ, _*_, _≤_, max, min}
+use native.Mathlib.Nat.{min-le-left, mul-le-mul, le-max-left, le-max-right}
 use native.Mathlib.Omega.{arith}
-use lib.Ieee.{Float}
 use borrow.Author.Tests.{le-ltb, eq-eqb}
-use Rattle.laws.specs.Most.{greater, lesser, lesser-left}
-use Rattle.assoc_similarity.specs.declared.refusal.Refusal.{Refusal}
-use Rattle.assoc_similarity.specs.declared.refusal.Verdict.{Verdict}
-use Rattle.assoc_similarity.specs.declared.refusal.Verdict.the-variants.{Accepted}
-use Rattle.assoc_similarity.specs.declared.cost.AssociateParams.{AssociateParams}
-use Rattle.assoc_matching.specs.declared.assignment.AssignmentCounts.{AssignmentCounts}
-use Rattle.assoc_matching.specs.declared.assignment.AssignmentAnswer.{AssignmentAnswer}
-use Rattle.assoc_matching.specs.declared.assignment.AssignmentAnswer.the-variants.{Assigned, Refused}
-use Rattle.assoc_matching.specs.Assignment.{Assignment}
-use Rattle.assoc_matching.specs.Answers.{assignmentAnswer}
-use Rattle.assoc.specs.Answers.{withinVerdict, AssociateEnds}
-use Rattle.boost_tracker_steps.specs.Private.{Sized, ListRoom}
+use lib.ListN.{length, take}
+use lib.Ieee.{Float}
+use Rattle.laws.specs.Grid.{grid, grid-front}
+use Rattle.refusals.specs.declared.refusal.Refusal.{Refusal}
+use Rattle.refusals.specs.declared.refusal.Refusal.the-variants.{TooMany, OtherSize, TooShort}
+use Rattle.refusals.specs.declared.refusal.Verdict.{Verdict}
+use Rattle.refusals.specs.declared.refusal.Verdict.the-variants as verdict
+use Rattle.assoc.specs.declared.cost.AssociateParams.{AssociateParams}
+use Rattle.refusals.specs.Refusal.{number}
+use Rattle.assoc_assignment.specs.declared.assignment.AssignmentCounts.{AssignmentCounts}
+use Rattle.assoc_assignment.specs.declared.assignment.AssignmentAnswer.{AssignmentAnswer}
+use Rattle.assoc_assignment.specs.declared.assignment.AssignmentAnswer.the-variants.{Assigned, Refused}
+use Rattle.assoc_assignment.specs.Assignment.{Assignment}
+use Rattle.assoc_matching.specs.Answers as Matching
+use Rattle.assoc_assignment.specs.Answers as Answers
+use Rattle.assoc_assignment.specs.Answers.{Lists, roomWith, roomOf, assignmentCounts, assignmentNumber, assignmentValues}
+use Rattle.assoc.specs.Association.{associate}
+use Rattle.assoc.specs.Answers.{Lent, lentAfter, withinVerdict, withinCall}
+use Rattle.assoc.proofs.EndLaws.{within-accepted}
+use Rattle.boost_tracker_dlo.specs.MhDist.{getMhDistMatrix}
+use Rattle.boost_tracker_table.specs.declared.settings.Settings.{Settings}
+use Rattle.boost_tracker_table.specs.Table.{Track}
+use Rattle.boost_tracker_table.specs.Lent.{Call, callWith}
+use Rattle.boost_tracker_definition.specs.Update.{trackerAt, params, mhDist, result}
+use Rattle.boost_tracker_steps.specs.Private.{accepted, Distant, Sized}
 
--- ---- the verdict
+-- ---- the verdicts
+
+-- result lists at least as long as the association asks for
+pub record ListRoom (boxes held pairBoxes pairTracks unmatched left : ℕ) : Type 0 where
+  pub pair-boxes-fit : boxes ≤ pairBoxes
+  pub pair-tracks-fit : boxes ≤ pairTracks
+  pub unmatched-fit : boxes ≤ unmatched
+  pub left-fit : held ≤ left
+
+-- 255 places serve all
+pub list-room : {boxes held pairBoxes pairTracks unmatched left : ℕ} → boxes ≤ 255 → held ≤ 255 → pairBoxes ≡ 255 → pairTracks ≡ 255 → unmatched ≡ 255 → left ≡ 255
+    → ListRoom boxes held pairBoxes pairTracks unmatched left
+list-room b h pb pt u l =
+    record {
+      pair-boxes-fit = omega (arith, b, pb);
+      pair-tracks-fit = omega (arith, b, pt);
+      unmatched-fit = omega (arith, b, u);
+      left-fit = omega (arith, h, l);
+    }
+
+-- the distances have room
+pub distant-of : {held corners trks confs scores work64 work32 : ℕ} → Sized held corners trks confs scores work64 work32 → Distant scores held corners work32
+distant-of {held} {corners} {trks} {confs} {scores} s =
+    let square : scores * held ≤ max scores held * max scores held = mul-le-mul (le-max-left scores held) (le-max-right scores held) in
+    let singles = s .singles in
+    record { few-boxes = s .few-boxes; few-tracks = s .few-tracks; corners-fit = s .corners-fit; room = omega arith }
 
 and-none : (a : Bool) → (a && false) ≡ false
 and-none true = refl
 and-none false = refl
 
-pub within-accepted : (params : AssociateParams) (boxes held corners trks confs scores pairBoxes pairTracks unmatched left work64 work32 : ℕ) → Sized boxes held corners trks confs scores work64 work32
-    → ListRoom boxes held pairBoxes pairTracks unmatched left → withinVerdict params boxes held corners trks confs scores pairBoxes pairTracks unmatched left work64 work32 ≡ Accepted
+sizes-accepted : (params : AssociateParams) (held corners trks confs scores pairBoxes pairTracks unmatched left work64 work32 : ℕ) → Sized held corners trks confs scores work64 work32
+    → ListRoom scores held pairBoxes pairTracks unmatched left → withinVerdict params scores held corners trks confs scores (roomWith pairBoxes pairTracks unmatched left) work64 work32 ≡ verdict.Accepted
 unfolding withinVerdict
-within-accepted params boxes held corners trks confs scores pairBoxes pairTracks unmatched left work64 work32 s r =
-    let few : lesser boxes held ≤ boxes = lesser-left boxes held in
+sizes-accepted params held corners trks confs scores pairBoxes pairTracks unmatched left work64 work32 s r =
+    let few : min scores held ≤ scores = min-le-left scores held in
+    let b = r .pair-boxes-fit in
+    let t = r .pair-tracks-fit in
     rw (
-      le-ltb 255 boxes (s .few-boxes),
+      le-ltb 255 scores (s .few-boxes),
       le-ltb 255 held (s .few-tracks),
-      eq-eqb corners (boxes * 4) (s .corners-fit),
+      eq-eqb corners (scores * 4) (s .corners-fit),
       eq-eqb trks (held * 4) (s .trks-fit),
       eq-eqb confs held (s .confs-fit),
-      eq-eqb scores boxes (s .scores-fit),
+      eq-eqb scores scores refl,
       and-none (params .«has_confidence»),
-      le-ltb work32 (4 * (greater boxes held * greater boxes held)) (s .singles),
-      r .unmatched-fit,
-      r .left-fit,
-      r .pair-boxes-fit,
-      r .pair-tracks-fit,
-      le-ltb boxes boxes (le-refl boxes),
-      le-ltb held held (le-refl held),
-      le-ltb boxes (lesser boxes held) few,
-      le-ltb work64 (greater boxes held * greater boxes held) (s .doubles),
+      le-ltb work32 (4 * (max scores held * max scores held)) (s .singles),
+      le-ltb unmatched scores (r .unmatched-fit),
+      le-ltb left held (r .left-fit),
+      le-ltb pairBoxes (min scores held) (omega (arith, few, b)),
+      le-ltb pairTracks (min scores held) (omega (arith, few, t)),
+      le-ltb work64 (max scores held * max scores held) (s .doubles),
     )
+
+-- ---- the answer
+
+-- an answer with the number 0 has these counts
+assigned-is : {r : AssignmentAnswer} {q : AssignmentCounts} {l l′ : Lent} → Answers.callWith r l ≡ Answers.callWith (Assigned q) l′ → callWith r l ≡ callWith (Assigned q) l′
+assigned-is {r} {q} {l} {l′} w = by-cases r (ap (λ (k : Matching.Call AssignmentCounts Lent). k .number) w) (ap (λ (k : Matching.Call AssignmentCounts Lent). k .counts) w)
+  where
+    above : (why : Refusal) → number why ≡ 0 → ⊥
+    above TooMany e = omega arith
+    above OtherSize e = omega arith
+    above TooShort e = omega arith
+
+    same : l ≡ l′
+    same = ap (λ (k : Matching.Call AssignmentCounts Lent). k .lent) w
+
+    by-cases : (a : AssignmentAnswer) → assignmentNumber a ≡ 0 → assignmentValues a ≡ q → callWith a l ≡ callWith (Assigned q) l′
+    by-cases (Assigned counts) n e = ap (λ (k : AssignmentCounts). callWith (Assigned k) l) e ∙ ap (λ (k : Lent). callWith (Assigned q) k) same
+    by-cases (Refused why) n e = absurd (above why n)
+
+pub never-unpaired : {L : Type 0} {r : AssignmentAnswer} {q : AssignmentCounts} {why : Refusal} {l l′ : L} → callWith r l ≡ callWith (Assigned q) l′ → r ≡ Refused why → ⊥
+never-unpaired {L} {r} {q} {why} w e =
+    let clash : Assigned q ≡ Refused why = sym (ap (λ (k : Call AssignmentAnswer L). k .answer) w) ∙ e in
+    let z : _≡_ {A = ℕ} 0 1 = cc in
+    omega arith
 
 -- ---- what the call leaves
 
-module _ {v : Verdict} (e : v ≡ Accepted) {boxes held : ℕ} {iou : List Float} {threshold : Float} {a : Assignment} {pairBoxes pairTracks unmatched left : List ℕ} {work64 work32 : List Float}
-    {r : AssignmentAnswer} {pairBoxes′ pairTracks′ unmatched′ left′ : List ℕ} {work64′ work32′ : List Float}
-    (w : AssociateEnds v boxes held iou threshold a pairBoxes pairTracks unmatched left work64 work32 r pairBoxes′ pairTracks′ unmatched′ left′ work64′ work32′) where
-  -- no call of a frame is refused
-  pub never-refused : {why : Refusal} → r ≡ Refused why → ⊥
-  never-refused {why} f =
-      let g : r ≡ assignmentAnswer Accepted a = w .leaves .answer ∙ ap (λ (u : Verdict). assignmentAnswer u a) e in
-      let z : _≡_ {A = ℕ} 0 1 = cc in
-      omega arith
+-- what steps 4 and 5 answer and leave: the counts of the association, its lists over the fronts, and zeros in the work slices
+unfoldable pub pairedCall : Settings → List Float → List Float → List Float → List Float → List Track → Lent → Call AssignmentAnswer Lent
+pairedCall self boxes probs ts cs trackers l =
+    let a : Assignment = result self boxes probs trackers ts cs in
+    callWith (Assigned (assignmentCounts a)) (lentAfter a l)
 
-  pub paired : {counts : AssignmentCounts} → r ≡ Assigned counts
-      → AssociateEnds Accepted boxes held iou threshold a pairBoxes pairTracks unmatched left work64 work32 (Assigned counts) pairBoxes′ pairTracks′ unmatched′ left′ work64′ work32′
-  paired f = rw (e, f) at w
+module _ (self : Settings) (corners probs ts cs : List Float) (trackers : List Track) (held : ℕ) (many : length trackers ≡ held) where
+  -- the association with the distances in the front of the work slice
+  result-is : (work : List Float) {work′ : List Float} → work′ ≡ grid (getMhDistMatrix corners (trackerAt trackers)) (length probs) held work
+      → associate (params self (length probs) held) (length probs) held corners ts (take (length probs * held) work′) cs probs ≡ result self corners probs trackers ts cs
+  unfolding result mhDist
+  result-is work e = rw (many, e, grid-front (getMhDistMatrix corners (trackerAt trackers)) (length probs) held work)
+
+  pub pair-is : (lists : Lists) (work64 work32 : List Float) {work32₁ : List Float} {v : Verdict} {q : AssociateParams} {r : AssignmentAnswer} {l′ : Lent}
+      → Sized held (length corners) (length ts) (length cs) (length probs) (length work64) (length work32)
+      → ListRoom (length probs) held (length (lists .pairBoxes)) (length (lists .pairTracks)) (length (lists .unmatchedDetections)) (length (lists .unmatchedTracks))
+      → callWith v work32₁ ≡ accepted (grid (getMhDistMatrix corners (trackerAt trackers)) (length probs) held work32) → length work32₁ ≡ length work32 → q ≡ params self (length probs) held
+      → Answers.callWith r l′ ≡ withinCall q (length probs) held corners ts cs probs (record { lists = lists; work64 = work64; work32 = work32₁ })
+      → callWith r l′ ≡ pairedCall self corners probs ts cs trackers (record { lists = lists; work64 = work64; work32 = work32 })
+  unfolding pairedCall
+  pair-is lists work64 work32 {work32₁} {v} {q} {r} {l′} s room d same eq w =
+      let p : AssociateParams = params self (length probs) held in
+      let l : Lent = record { lists = lists; work64 = work64; work32 = work32₁ } in
+      let a : Assignment = associate p (length probs) held corners ts (take (length probs * held) work32₁) cs probs in
+      let fit : withinVerdict p (length probs) held (length corners) (length ts) (length cs) (length probs) (roomOf lists) (length work64) (length work32₁) ≡ verdict.Accepted =
+      rw same (sizes-accepted p held (length corners) (length ts) (length cs) (length probs) _ _ _ _ (length work64) (length work32) s room) in
+      let call : Answers.callWith r l′ ≡ Answers.callWith (Assigned (assignmentCounts a)) (lentAfter a l) = (rw eq at w) ∙ sym (within-accepted p (length probs) held corners ts cs probs l fit) in
+      let stored = ap (λ (k : Call Verdict (List Float)). k .lent) d in
+      assigned-is (rw (result-is work32 stored, same) at call)
+
+-- the counts of the association, as the call answers them
+pub paired-answer : (self : Settings) (corners probs ts cs : List Float) (trackers : List Track) (l : Lent) → pairedCall self corners probs ts cs trackers l
+    ≡ callWith (Assigned (assignmentCounts (result self corners probs trackers ts cs))) (lentAfter (result self corners probs trackers ts cs) l)
+unfolding pairedCall
+paired-answer self corners probs ts cs trackers l = refl

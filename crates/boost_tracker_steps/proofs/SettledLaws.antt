@@ -1,128 +1,133 @@
--- Distances, association, corrections and starts in a row are the definition's steps 4 to 7. Assumes nothing.
-use mathlib.Core.Path.{_≡_, refl, sym, ap, _∙_}
+-- Association, corrections and starts in a row are the definition's steps 4 to 7. Assumes nothing.
+use mathlib.Core.Path.{_≡_, sym, ap, _∙_}
 use mathlib.Core.List.{List, _++_}
-use Prim.Native.Nat.{ℕ, _+_, _*_, _≤_, _<_, _^_}
-use native.Mathlib.Nat.{mul-le-mul}
+use Prim.Native.Nat.{ℕ, _+_, _<_}
 use native.Mathlib.Omega.{arith}
-use lib.ListN.{length, length-append, length-map, getD, take}
+use lib.ListN.{length, length-map, getD, take}
 use lib.Ieee.{Float, binary32, ofBits}
-use Rattle.laws.specs.Tab.{tab, length-tab}
-use Rattle.laws.specs.Grid.{grid, grid-front}
-use Rattle.laws.specs.Most.{greater, greater-left, greater-right}
+use Rattle.laws.specs.Tab.{tab}
 use Rattle.laws.specs.Over.{over-front}
-use Rattle.boost_tracker_dlo.specs.MhDist.{getMhDistMatrix}
-use Rattle.assoc_similarity.specs.declared.refusal.Verdict.the-variants.{Accepted}
-use Rattle.assoc_matching.specs.declared.assignment.AssignmentCounts.{AssignmentCounts}
-use Rattle.assoc_matching.specs.declared.assignment.AssignmentAnswer.the-variants.{Assigned}
+use Rattle.assoc_assignment.specs.declared.assignment.AssignmentCounts.{AssignmentCounts}
+use Rattle.assoc_assignment.specs.declared.assignment.AssignmentAnswer.{AssignmentAnswer}
+use Rattle.assoc_assignment.specs.declared.assignment.AssignmentAnswer.the-variants.{Assigned}
 use Rattle.assoc_matching.specs.Matching.{Pair, boxesOf, tracksOf}
-use Rattle.assoc_matching.specs.Assignment.{Assignment}
-use Rattle.assoc.specs.Association.{ious, associate}
-use Rattle.assoc_matching.specs.Account.{Accounted}
-use Rattle.assoc_matching.specs.Answers.{assignmentCounts, assignmentNumber}
-use Rattle.assoc.specs.Answers.{cleared, AssociateEnds}
+use Rattle.assoc_assignment.specs.Assignment.{Assignment}
+use Rattle.assoc.specs.Association.{ious}
+use Rattle.assoc_assignment.specs.Account.{Accounted}
+use Rattle.assoc_matching.specs.Answers.{zeroed}
+use Rattle.assoc_assignment.specs.Answers.{Lists, listed, assignmentCounts, assignmentValues}
+use Rattle.assoc.specs.Answers as Association
+use Rattle.assoc.specs.Answers.{cleared}
+use Rattle.assoc.proofs.Theorem.{account as accounted}
 use Rattle.boost_tracker_table.specs.declared.settings.Settings.{Settings}
-use Rattle.boost_tracker_table.specs.Table.{Track, capacity, tracks, Laying}
-use Rattle.boost_tracker_definition.specs.Update.{trackerAt, params, mhDist, result, matched, Started, startedFrom, started}
-use Rattle.boost_tracker_definition.specs.Plain.{Above, correctedBy, startedBy}
-use Rattle.boost_tracker_definition.proofs.PlainLaws.{corrected-many, matched-is, started-is}
-use Rattle.boost_tracker_follow.specs.Corrections.{Listed, FollowRoom}
-use Rattle.boost_tracker_steps.specs.Private.{Distant, allStarted, SettleRoom, Settled}
-
-assigned-same : (a b : AssignmentCounts) → Assigned a ≡ Assigned b → a ≡ b
-assigned-same a b e = cc
-
--- the association with the distances in the front of the work slice
-module _ (self : Settings) (corners probs ts cs : List Float) (trackers : List Track) (held : ℕ) (many : length trackers ≡ held) where
-  pub result-is : (work : List Float) {work′ : List Float} → work′ ≡ grid (getMhDistMatrix corners (trackerAt trackers)) (length probs) held work
-      → associate (params self (length probs) held) (length probs) held corners ts (take (length probs * held) work′) cs probs ≡ result self corners probs trackers ts cs
-  unfolding result mhDist
-  result-is work e = rw (many, e, grid-front (getMhDistMatrix corners (trackerAt trackers)) (length probs) held work)
-
--- after the association: a is the definition's
-module _ (corners probs : List Float) (held : ℕ) {iou : List Float} {threshold : Float} (a : Assignment) {pb pt un left : List ℕ} {work64 work32 : List Float} {r : AssignmentCounts}
-    {pb′ pt′ un′ left′ : List ℕ} {work64′ work32′ : List Float}
-    (w : AssociateEnds Accepted (length probs) held iou threshold a pb pt un left work64 work32 (Assigned r) pb′ pt′ un′ left′ work64′ work32′) where
-  pub counts-are : r ≡ assignmentCounts a
-  counts-are = assigned-same r (assignmentCounts a) (w .leaves .answer)
-
-  pub account : Accounted iou (length probs) held threshold a
-  unfolding assignmentNumber
-  account = w .facts refl
-
-  pub pair-boxes-are : take (r .pairs) pb′ ≡ boxesOf (a .matches)
-  pair-boxes-are = rw (w .leaves .pair-boxes) (over-front (boxesOf (a .matches)) pb (r .pairs) (ap (λ (q : AssignmentCounts). q .pairs) counts-are ∙ sym (length-map (a .matches) (λ (p : Pair). p .box))))
-
-  pub pair-tracks-are : take (r .pairs) pt′ ≡ tracksOf (a .matches)
-  pair-tracks-are = rw (w .leaves .pair-tracks) (over-front (tracksOf (a .matches)) pt (r .pairs) (ap (λ (q : AssignmentCounts). q .pairs) counts-are ∙ sym (length-map (a .matches) (λ (p : Pair). p .track))))
-
-  pub unmatched-are : take (r .detections) un′ ≡ a .unmatchedDetections
-  unmatched-are = rw (w .leaves .unmatched-detections) (over-front (a .unmatchedDetections) un (r .detections) (ap (λ (q : AssignmentCounts). q .detections) counts-are))
-
-  pub started-few : r .pairs + r .detections ≡ length probs
-  started-few = rw counts-are (account .boxes-many)
-
-  pub pairs-listed : length corners ≡ length probs * 4 → Listed (take (r .pairs) pb′) (length corners)
-  pairs-listed e k h =
-      let b : getD (boxesOf (a .matches)) k 0 < length probs = account .boxes-once .below k (rw pair-boxes-are at h) in
-      rw pair-boxes-are (omega arith)
-
-  pub unmatched-listed : length corners ≡ length probs * 4 → Listed (take (r .detections) un′) (length corners)
-  unmatched-listed e k h =
-      let b : getD (a .unmatchedDetections) k 0 < length probs = account .unmatched-boxes-once .below k (rw unmatched-are at h) in
-      rw unmatched-are (omega arith)
-
-started-many : (last : ℕ) (corners : List Float) (unmatched : List ℕ) → length (startedBy last corners unmatched) ≡ length unmatched
-unfolding startedBy
-started-many last corners unmatched = length-tab _ (length unmatched)
+use Rattle.boost_tracker_table.specs.Table.{Track, capacity, tracks}
+use Rattle.boost_tracker_table.specs.Lent.{Table, tableWith, Call, callWith}
+use Rattle.boost_tracker_table.proofs.Laws.{tracks-many}
+use Rattle.boost_tracker_definition.specs.Update.{params, mhDist, result, matched, Started, startedFrom}
+use Rattle.boost_tracker_definition.specs.Plain.{Above, startedBy}
+use Rattle.boost_tracker_definition.proofs.PlainLaws.{matched-is, started-is}
+use Rattle.boost_tracker_follow.specs.Corrections.{Listed, tracksAfter, followed}
+use Rattle.boost_tracker_follow.proofs.FitLaws.{FollowRoom}
+use Rattle.boost_tracker_follow.proofs.FollowLaws.{followed-is}
+use Rattle.boost_tracker_steps.specs.AllSteps.{Lent, lentWith}
+use Rattle.boost_tracker_steps.specs.Private.{Sized, StartRoom, allStarted, settledCall}
+use Rattle.boost_tracker_steps.proofs.PairLaws.{ListRoom, pairedCall}
 
 -- zeros as many as the list has cells
 pub cleared-same : (k l : List Float) → length k ≡ length l → cleared k ≡ cleared l
 cleared-same k l e = ap (λ (n : ℕ). tab (λ _. ofBits binary32 0) n) e
 
--- the distances have room
-pub distant-of : {held last floats counters corners trks confs scores work64 work32 : ℕ} → SettleRoom held last floats counters corners trks confs scores work64 work32 → Distant scores held corners work32
-distant-of {held} {last} {floats} {counters} {corners} {trks} {confs} {scores} w =
-    let s = w .sized in
-    let square : scores * held ≤ greater scores held * greater scores held = mul-le-mul (greater-left scores held) (greater-right scores held) in
-    let singles = s .singles in
-    record { few-boxes = s .few-boxes; few-tracks = s .few-tracks; corners-fit = s .corners-fit; room = omega arith }
+-- the memory that steps 4 to 7 leave, of the table and the work slices
+abbrev beside : List Float → List Float → Call AssignmentAnswer Table → Call AssignmentAnswer Lent
+beside work64 work32 k = callWith (k .answer) (record { table = k .lent; work64 = work64; work32 = work32 })
 
-pub follow-room : {held last floats counters pairs started probs pairBoxes pairTracks unmatched : ℕ} → held + probs ≤ capacity floats counters → last + 255 < 2 ^ 64 → pairs + started ≡ probs
-    → pairBoxes ≡ probs → pairTracks ≡ probs → unmatched ≡ probs → FollowRoom held floats counters last pairs started pairBoxes pairTracks unmatched
-follow-room room ids e b t u = record { room = omega arith; ids-fit = ids; pairs-in-boxes = omega arith; pairs-in-tracks = omega arith; started-in = omega arith }
+-- after the association: its answer has counts, and its lists lie over the fronts
+module _ (self : Settings) (last : ℕ) (corners probs ts cs : List Float) (f : List Float) (c : List ℕ) (held : ℕ) (lists : Lists) (work64 work32 : List Float)
+    (sized : Sized held (length corners) (length ts) (length cs) (length probs) (length work64) (length work32)) (room : StartRoom held (length probs) last (length f) (length c))
+    {paired : AssignmentAnswer} {counts : AssignmentCounts} {l′ : Association.Lent}
+    (w : callWith paired l′ ≡ pairedCall self corners probs ts cs (tracks f c held) (record { lists = lists; work64 = work64; work32 = work32 })) (e : paired ≡ Assigned counts) where
+  abbrev T : List Track
+  T = tracks f c held
 
-module _ (self : Settings) (last : ℕ) (corners probs ts cs : List Float) (f : List Float) (c : List ℕ) (held : ℕ) (many : length (tracks f c held) ≡ held) (above : Above (self .«det_thresh») probs) where
-  pub settled : {pb pt un left : List ℕ} {work64 work32 work32₁ : List Float} {r : AssignmentCounts} {pb′ pt′ un′ left′ : List ℕ} {work64′ work32′ f′ : List Float} {c′ : List ℕ}
-      → work32₁ ≡ grid (getMhDistMatrix corners (trackerAt (tracks f c held))) (length probs) held work32 → length work32₁ ≡ length work32
-      → AssociateEnds Accepted (length probs) held (ious (length probs) held corners ts) (self .«iou_threshold»)
-      (associate (params self (length probs) held) (length probs) held corners ts (take (length probs * held) work32₁) cs probs) pb pt un left work64 work32₁ (Assigned r) pb′ pt′ un′ left′ work64′ work32′
-      → Laying f c f′ c′ (correctedBy corners (take (r .pairs) pb′) (take (r .pairs) pt′) (tracks f c held) ++ startedBy last corners (take (r .detections) un′))
-      → Settled self last corners probs ts cs (tracks f c held) f c work64 work32 r f′ c′ work64′ work32′
-  settled {pb} {pt} {un} {left} {work64} {work32} {work32₁} {r} {pb′} {pt′} {un′} {left′} {work64′} {work32′} {f′} {c′} d l p v =
-      let T : List Track = tracks f c held in
-      let a : Assignment = result self corners probs T ts cs in
-      let w = rw (result-is self corners probs ts cs T held many work32 d) at p in
-      let acc = account corners probs held a w in
-      let counts = counts-are corners probs held a w in
+  -- the definition's
+  abbrev a : Assignment
+  a = result self corners probs T ts cs
+
+  account : Accounted (ious (length probs) held corners ts) (length probs) held (self .«iou_threshold») a
+  unfolding result
+  account =
+      let places = room .room in
+      let many : length T ≡ held = tracks-many f c held (omega (arith, places)) in
+      rw many (accounted (params self (length probs) held) (length probs) held corners ts (mhDist (length probs) corners T) cs probs (sized .few-boxes) (sized .few-tracks))
+
+  leaves : callWith paired l′ ≡ callWith (Assigned (assignmentCounts a)) (Association.lentAfter a (record { lists = lists; work64 = work64; work32 = work32 }))
+  unfolding pairedCall
+  leaves = w
+
+  counts-are : counts ≡ assignmentCounts a
+  counts-are = ap assignmentValues (sym e ∙ ap (λ (k : Call AssignmentAnswer Association.Lent). k .answer) leaves)
+
+  fronts : l′ .lists ≡ listed a lists
+  fronts = ap (λ (k : Call AssignmentAnswer Association.Lent). k .lent .lists) leaves
+
+  pairs-are : counts .pairs ≡ length (a .matches)
+  pairs-are = ap (λ (q : AssignmentCounts). q .pairs) counts-are
+
+  boxes-are : take (counts .pairs) (l′ .lists .pairBoxes) ≡ boxesOf (a .matches)
+  boxes-are = rw fronts (over-front (boxesOf (a .matches)) (lists .pairBoxes) (counts .pairs) (pairs-are ∙ sym (length-map (a .matches) (λ (p : Pair). p .box))))
+
+  tracks-are : take (counts .pairs) (l′ .lists .pairTracks) ≡ tracksOf (a .matches)
+  tracks-are = rw fronts (over-front (tracksOf (a .matches)) (lists .pairTracks) (counts .pairs) (pairs-are ∙ sym (length-map (a .matches) (λ (p : Pair). p .track))))
+
+  unmatched-are : take (counts .detections) (l′ .lists .unmatchedDetections) ≡ a .unmatchedDetections
+  unmatched-are = rw fronts (over-front (a .unmatchedDetections) (lists .unmatchedDetections) (counts .detections) (ap (λ (q : AssignmentCounts). q .detections) counts-are))
+
+  -- every index is of a box
+  pairs-listed : Listed (take (counts .pairs) (l′ .lists .pairBoxes)) (length corners)
+  pairs-listed k h =
+      let low : getD (boxesOf (a .matches)) k 0 < length probs = account .boxes-once .below k (rw boxes-are at h) in
+      let fit = sized .corners-fit in
+      rw boxes-are (omega arith)
+
+  unmatched-listed : Listed (take (counts .detections) (l′ .lists .unmatchedDetections)) (length corners)
+  unmatched-listed k h =
+      let low : getD (a .unmatchedDetections) k 0 < length probs = account .unmatched-boxes-once .below k (rw unmatched-are at h) in
+      let fit = sized .corners-fit in
+      rw unmatched-are (omega arith)
+
+  follow-room : {pairBoxes pairTracks unmatched left : ℕ} → ListRoom (length probs) held pairBoxes pairTracks unmatched left → FollowRoom held (capacity (length f) (length c)) last counts pairBoxes pairTracks unmatched
+  follow-room fit =
+      let many : counts .pairs + counts .detections ≡ length probs = rw counts-are (account .boxes-many) in
+      let b = fit .pair-boxes-fit in
+      let t = fit .pair-tracks-fit in
+      let u = fit .unmatched-fit in
+      let places = room .room in
+      record {
+        room = omega (arith, many, places);
+        ids-fit = room .ids-fit;
+        pairs-in-boxes = omega (arith, many, b);
+        pairs-in-tracks = omega (arith, many, t);
+        started-in = omega (arith, many, u);
+      }
+
+  -- the tracks that are followed are all after step 7
+  all-are : Above (self .«det_thresh») probs
+      → tracksAfter held last corners (take (counts .pairs) (l′ .lists .pairBoxes)) (take (counts .pairs) (l′ .lists .pairTracks)) (take (counts .detections) (l′ .lists .unmatchedDetections)) (tableWith f c)
+      ≡ allStarted self last corners probs ts cs T .trackers
+  all-are above =
       let hit : List Track = matched corners (a .matches) T in
       let new : List Track = startedBy last corners (a .unmatchedDetections) in
       let all : allStarted self last corners probs ts cs T ≡ startedFrom (last + length (a .unmatchedDetections)) (hit ++ new) =
-      started-is (self .«det_thresh») corners probs (a .unmatchedDetections) last hit above (λ k h. acc .unmatched-boxes-once .below k h) in
-      let whole : allStarted self last corners probs ts cs T .trackers ≡ hit ++ new = ap (λ (s : Started). s .trackers) all in
-      let hits : length hit ≡ length T = ap length (matched-is corners (a .matches) T) ∙ corrected-many corners (boxesOf (a .matches)) (tracksOf (a .matches)) T in
-      let laid : Laying f c f′ c′ (hit ++ new) =
-      rw (pair-boxes-are corners probs held a w, pair-tracks-are corners probs held a w, unmatched-are corners probs held a w, ← matched-is corners (a .matches) T) at v in
-      let few = started-few corners probs held a w in
-      let news = started-many last corners (a .unmatchedDetections) in
-      record {
-        laying = rw whole laid;
-        many = rw (whole, counts) (length-append hit new ∙ rw (hits, news));
-        last-is = ap (λ (s : Started). s .trackIdCount) all ∙ rw counts;
-        few = omega arith;
-        started-are = rw counts;
-        turns-are = rw counts;
-        scans-are = rw counts;
-        doubles = w .leaves .work-slice;
-        singles = w .floats ∙ cleared-same work32₁ work32 l;
-        facts = rw many acc;
-      }
+      started-is (self .«det_thresh») corners probs (a .unmatchedDetections) last hit above (λ k h. account .unmatched-boxes-once .below k h) in
+      rw (boxes-are, tracks-are, unmatched-are, ← matched-is corners (a .matches) T) (sym (ap (λ (s : Started). s .trackers) all))
+
+  pub settled : {left : ℕ} {r : AssignmentAnswer} {f′ : List Float} {c′ : List ℕ} → Above (self .«det_thresh») probs
+      → ListRoom (length probs) held (length (l′ .lists .pairBoxes)) (length (l′ .lists .pairTracks)) (length (l′ .lists .unmatchedDetections)) left
+      → callWith r (tableWith f′ c′) ≡ followed held last corners counts (l′ .lists .pairBoxes) (l′ .lists .pairTracks) (l′ .lists .unmatchedDetections) (tableWith f c)
+      → callWith r (lentWith f′ c′ (l′ .work64) (l′ .work32)) ≡ settledCall self last corners probs ts cs held (lentWith f c work64 work32)
+  unfolding settledCall
+  settled above fit v =
+      let ends = v ∙ followed-is held last corners counts (l′ .lists .pairBoxes) (l′ .lists .pairTracks) (l′ .lists .unmatchedDetections) f c (follow-room fit) pairs-listed unmatched-listed in
+      let doubles : l′ .work64 ≡ zeroed work64 = ap (λ (k : Call AssignmentAnswer Association.Lent). k .lent .work64) leaves in
+      let singles : l′ .work32 ≡ cleared work32 = ap (λ (k : Call AssignmentAnswer Association.Lent). k .lent .work32) leaves in
+      ap (beside (l′ .work64) (l′ .work32)) ends ∙ rw (all-are above, counts-are, doubles, singles)

@@ -5,20 +5,27 @@ use Prim.Native.Nat.{ℕ, _+_, _*_, _≤_, _<_, _^_, max}
 use lib.ListN.{length, take}
 use lib.Ieee.{Float}
 use Rattle.laws.specs.Laid.{laid}
-use Rattle.laws.specs.Most.{greater}
 use Rattle.strack.specs.Strack.{getState, getKfState, getKfCovarianceDiag}
 use Rattle.boost_tracker_dlo.specs.MhDist.{row, reciprocals}
-use Rattle.assoc_matching.specs.declared.assignment.AssignmentCounts.{AssignmentCounts}
-use Rattle.assoc_matching.specs.Account.{Accounted}
-use Rattle.assoc.specs.Association.{ious}
+use Rattle.refusals.specs.declared.refusal.Verdict.{Verdict}
+use Rattle.refusals.specs.declared.refusal.Verdict.the-variants.{Accepted}
+use Rattle.assoc_assignment.specs.declared.assignment.AssignmentAnswer.{AssignmentAnswer}
+use Rattle.assoc_assignment.specs.declared.assignment.AssignmentAnswer.the-variants.{Assigned}
 use Rattle.assoc_matching.specs.Answers.{zeroed}
+use Rattle.assoc_assignment.specs.Answers.{assignmentCounts}
 use Rattle.assoc.specs.Answers.{cleared}
 use Rattle.boost_tracker_table.specs.declared.settings.Settings.{Settings}
-use Rattle.boost_tracker_table.specs.Table.{Track, capacity, Laying}
+use Rattle.boost_tracker_table.specs.Table.{Track, capacity}
+use Rattle.boost_tracker_table.specs.Lent.{tracksIn, laidOver, Call, callWith}
+use Rattle.boost_tracker_steps.specs.AllSteps.{Lent, lentAfter}
 use Rattle.boost_tracker_steps.specs.declared.gather.Four.{Four}
 use Rattle.boost_tracker_steps.specs.declared.gather.RowOf.{RowOf}
 use Rattle.boost_tracker_steps.specs.declared.gather.RowOf.the-variants as row-of
 use Rattle.boost_tracker_definition.specs.Update.{cornersOf, xyxyOf, trackerAt, bboxes, scores, trks, confs, remainInds, detBboxes, detScores, result, matched, Started, startedFrom, started, Stages}
+
+-- what a stage leaves that accepts its sizes
+abbrev pub accepted : {L : Type 0} → L → Call Verdict L
+accepted l = callWith Accepted l
 
 -- ---- gathering
 
@@ -39,7 +46,7 @@ abbrev pub SinceLow : ℕ → List Track → Type 0
 SinceLow held trackers = (j : ℕ) → j < held → trackerAt trackers j .since < 2 ^ 32
 
 -- local lists for n boxes
-pub record Lent (held n corners scores trks confs : ℕ) : Type 0 where
+pub record LocalRoom (held n corners scores trks confs : ℕ) : Type 0 where
   pub corners-fit : corners ≡ n * 4
   pub scores-fit : scores ≡ n
   pub trks-fit : trks ≡ held * 4
@@ -78,27 +85,21 @@ pub record Retained (thresh : Float) (objects probs₀ probs corners : List Floa
 
 -- ---- the association
 
-pub record Sized (boxes held corners trks confs scores work64 work32 : ℕ) : Type 0 where
-  pub few-boxes : boxes ≤ 255
+-- for as many boxes as there are scores
+pub record Sized (held corners trks confs scores work64 work32 : ℕ) : Type 0 where
+  pub few-boxes : scores ≤ 255
   pub few-tracks : held ≤ 255
-  pub corners-fit : corners ≡ boxes * 4
+  pub corners-fit : corners ≡ scores * 4
   pub trks-fit : trks ≡ held * 4
   pub confs-fit : confs ≡ held
-  pub scores-fit : scores ≡ boxes
-  pub doubles : greater boxes held * greater boxes held ≤ work64
-  pub singles : 4 * (greater boxes held * greater boxes held) ≤ work32
-
-pub record ListRoom (boxes held pairBoxes pairTracks unmatched left : ℕ) : Type 0 where
-  pub pair-boxes-fit : pairBoxes ≡ boxes
-  pub pair-tracks-fit : pairTracks ≡ boxes
-  pub unmatched-fit : unmatched ≡ boxes
-  pub left-fit : left ≡ held
+  pub doubles : max scores held * max scores held ≤ work64
+  pub singles : 4 * (max scores held * max scores held) ≤ work32
 
 -- ---- corrected and started tracks
 
-pub record SettleRoom (held last floats counters corners trks confs scores work64 work32 : ℕ) : Type 0 where
-  pub sized : Sized scores held corners trks confs scores work64 work32
-  pub room : held + scores ≤ capacity floats counters
+-- a place and an id for every box
+pub record StartRoom (held boxes last floats counters : ℕ) : Type 0 where
+  pub room : held + boxes ≤ capacity floats counters
   pub ids-fit : last + 255 < 2 ^ 64
 
 -- all trackers after step 7, and the last id
@@ -107,18 +108,12 @@ allStarted self last boxes probs ts cs trackers =
     started (self .«det_thresh») boxes probs (result self boxes probs trackers ts cs .unmatchedDetections)
     (startedFrom last (matched boxes (result self boxes probs trackers ts cs .matches) trackers))
 
-pub record Settled (self : Settings) (last : ℕ) (boxes probs ts cs : List Float) (trackers : List Track) (f : List Float) (c : List ℕ) (work64 work32 : List Float)
-    (r : AssignmentCounts) (f′ : List Float) (c′ : List ℕ) (work64′ work32′ : List Float) : Type 0 where
-  pub laying : Laying f c f′ c′ (allStarted self last boxes probs ts cs trackers .trackers)
-  pub many : length (allStarted self last boxes probs ts cs trackers .trackers) ≡ length trackers + r .detections
-  pub last-is : allStarted self last boxes probs ts cs trackers .trackIdCount ≡ last + r .detections
-  pub few : r .detections ≤ length probs
-  pub started-are : r .detections ≡ length (result self boxes probs trackers ts cs .unmatchedDetections)
-  pub turns-are : r .turns ≡ result self boxes probs trackers ts cs .turns
-  pub scans-are : r .scans ≡ result self boxes probs trackers ts cs .scans
-  pub doubles : work64′ ≡ zeroed work64
-  pub singles : work32′ ≡ cleared work32
-  pub facts : Accounted (ious (length probs) (length trackers) boxes ts) (length probs) (length trackers) (self .«iou_threshold») (result self boxes probs trackers ts cs)
+-- what steps 4 to 7 answer and leave: the counts of the association, and all trackers over the front of the table
+unfoldable pub settledCall : Settings → ℕ → List Float → List Float → List Float → List Float → ℕ → Lent → Call AssignmentAnswer Lent
+settledCall self last boxes probs ts cs held l =
+    let trackers : List Track = tracksIn (l .table) held in
+    callWith (Assigned (assignmentCounts (result self boxes probs trackers ts cs)))
+    (record { table = laidOver (allStarted self last boxes probs ts cs trackers .trackers) (l .table); work64 = zeroed (l .work64); work32 = cleared (l .work32) })
 
 -- ---- a frame
 
@@ -129,15 +124,6 @@ pub record TrackRoom (held n last floats counters work64 work32 : ℕ) : Type 0 
   pub doubles : max held n * max held n ≤ work64
   pub singles : 4 * (max held n * max held n) ≤ work32
 
--- what steps 1 to 7 leave, for n boxes
-pub record Tracked (threshold : Float) (g : Stages) (n last held : ℕ) (f : List Float) (c : List ℕ) (work64 work32 : List Float) (r : AssignmentCounts) (f′ : List Float) (c′ : List ℕ) (work64′ work32′ : List Float) : Type 0 where
-  pub laying : Laying f c f′ c′ (g .started .trackers)
-  pub many : length (g .started .trackers) ≡ held + r .detections
-  pub last-is : g .started .trackIdCount ≡ last + r .detections
-  pub few : r .detections ≤ n
-  pub facts : Accounted (ious (length (g .detScores)) held (g .detBboxes) (g .trks)) (length (g .detScores)) held threshold (g .result)
-  pub started-are : r .detections ≡ length (g .result .unmatchedDetections)
-  pub turns-are : r .turns ≡ g .result .turns
-  pub scans-are : r .scans ≡ g .result .scans
-  pub doubles : work64′ ≡ zeroed work64
-  pub singles : work32′ ≡ cleared work32
+-- what steps 1 to 7 answer and leave
+unfoldable pub stagesCall : Stages → Lent → Call AssignmentAnswer Lent
+stagesCall g l = callWith (Assigned (assignmentCounts (g .result))) (lentAfter g l)

@@ -1,21 +1,24 @@
 // Steps 1 to 7 of a frame in the Rust's order, where it is accepted.
 use crate::boost::boost;
 use crate::gather::gather;
+use crate::settle::refused_by;
 use crate::settle::retain;
 use crate::settle::settle;
-use assoc::AssignmentCounts;
+use assoc::AssignmentAnswer;
 use boost_tracker_table::Settings;
-use boost_tracker_table::State;
-use boost_tracker_table::Verdict;
+use boost_tracker_verdict::Refusal;
+use boost_tracker_verdict::State;
+use boost_tracker_verdict::Verdict;
 use records::BOX_VALUES;
 ghost use mathlib.Core.Path.{_≡_};
 ghost use Prim.Native.Nat.{_+_, _*_};
 ghost use lib.ListN.{length};
 ghost use Rattle.boost_tracker_table.specs.Table.{tracks};
-ghost use Rattle.boost_tracker_table.specs.Verdict.{boxesIn};
+ghost use Rattle.boost_tracker_table.specs.Lent.{callWith};
+ghost use Rattle.boost_tracker_verdict.specs.Verdict.{boxesIn};
 ghost use Rattle.boost_tracker_definition.specs.Update.{steps};
-ghost use Rattle.boost_tracker_steps.specs.Private.{Lent, TrackRoom, SinceLow, Tracked};
-ghost use Rattle.boost_tracker_steps.specs.AllSteps.{refusedAdvance, AdvanceEnds};
+ghost use Rattle.boost_tracker_steps.specs.Private.{LocalRoom, TrackRoom, SinceLow, stagesCall};
+ghost use Rattle.boost_tracker_steps.specs.AllSteps.{refusedAdvance, lentWith, advanced};
 
 // The counts are 0 where the frame is refused.
 pub struct Advanced {
@@ -40,12 +43,13 @@ fn track_with(
     confs: &mut [f32],
     work64: &mut [f64],
     work32: &mut [f32],
-) -> AssignmentCounts
+) -> AssignmentAnswer
     requires sizes { ⌜ TrackRoom held (boxesIn (now objects)) last (length (now floats)) (length (now counters)) (length (now work64)) (length (now work32)) ⌝ }
     requires low { ⌜ SinceLow held (tracks (now floats) (now counters) held) ⌝ }
-    requires lent { ⌜ Lent held (boxesIn (now objects)) (length (now corners)) (length (now scores)) (length (now trks)) (length (now confs)) ⌝ }
-    ensures { λ r. ⌜ Tracked (settings .«iou_threshold») (steps settings frame last (now (objects .entry)) (tracks (now (floats .entry)) (now (counters .entry)) held)) (boxesIn (now (objects .entry))) last held
-        (now (floats .entry)) (now (counters .entry)) (now (work64 .entry)) (now (work32 .entry)) r (now (floats .exit)) (now (counters .exit)) (now (work64 .exit)) (now (work32 .exit)) ⌝ }
+    requires lent { ⌜ LocalRoom held (boxesIn (now objects)) (length (now corners)) (length (now scores)) (length (now trks)) (length (now confs)) ⌝ }
+    ensures { λ r. ⌜ callWith r (lentWith (now (floats .exit)) (now (counters .exit)) (now (work64 .exit)) (now (work32 .exit)))
+        ≡ stagesCall (steps settings frame last (now (objects .entry)) (tracks (now (floats .entry)) (now (counters .entry)) held))
+        (lentWith (now (floats .entry)) (now (counters .entry)) (now (work64 .entry)) (now (work32 .entry))) ⌝ }
 {
     gather(
         floats,
@@ -57,7 +61,7 @@ fn track_with(
         trks,
         confs,
     );
-    boost(
+    let boosted = boost(
         settings,
         frame,
         floats,
@@ -69,6 +73,9 @@ fn track_with(
         work32,
         scores,
     );
+    let assoc::Verdict::Accepted = boosted else {
+        return refused_by(boosted);
+    };
     let kept = retain(settings.det_thresh, objects, scores, corners);
     let end = kept * 4;
     settle(
@@ -97,11 +104,12 @@ fn track(
     objects: &[f32],
     work64: &mut [f64],
     work32: &mut [f32],
-) -> AssignmentCounts
+) -> AssignmentAnswer
     requires sizes { ⌜ TrackRoom held (boxesIn (now objects)) last (length (now floats)) (length (now counters)) (length (now work64)) (length (now work32)) ⌝ }
     requires low { ⌜ SinceLow held (tracks (now floats) (now counters) held) ⌝ }
-    ensures { λ r. ⌜ Tracked (settings .«iou_threshold») (steps settings frame last (now (objects .entry)) (tracks (now (floats .entry)) (now (counters .entry)) held)) (boxesIn (now (objects .entry))) last held
-        (now (floats .entry)) (now (counters .entry)) (now (work64 .entry)) (now (work32 .entry)) r (now (floats .exit)) (now (counters .exit)) (now (work64 .exit)) (now (work32 .exit)) ⌝ }
+    ensures { λ r. ⌜ callWith r (lentWith (now (floats .exit)) (now (counters .exit)) (now (work64 .exit)) (now (work32 .exit)))
+        ≡ stagesCall (steps settings frame last (now (objects .entry)) (tracks (now (floats .entry)) (now (counters .entry)) held))
+        (lentWith (now (floats .entry)) (now (counters .entry)) (now (work64 .entry)) (now (work32 .entry))) ⌝ }
 {
     let n = objects.len() / BOX_VALUES;
     let mut corners = [0.0f32; 1020];
@@ -149,9 +157,10 @@ pub fn advance(
     work64: &mut [f64],
     work32: &mut [f32],
 ) -> Advanced
-    ensures { λ r. ⌜ AdvanceEnds settings state (now (floats .entry)) (now (counters .entry)) (now (boxes .entry)) room (now (work64 .entry)) (now (work32 .entry)) r (now (floats .exit)) (now (counters .exit)) (now (work64 .exit)) (now (work32 .exit)) ⌝ }
+    ensures { λ r. ⌜ callWith r (lentWith (now (floats .exit)) (now (counters .exit)) (now (work64 .exit)) (now (work32 .exit)))
+        ≡ advanced settings state (now (boxes .entry)) room (lentWith (now (floats .entry)) (now (counters .entry)) (now (work64 .entry)) (now (work32 .entry))) ⌝ }
 {
-    let verdict = boost_tracker_table::frame_verdict(
+    let verdict = boost_tracker_verdict::frame_verdict(
         settings,
         state,
         floats,
@@ -168,7 +177,7 @@ pub fn advance(
     let last = state.last;
     let frame = state.frames + 1;
     boost_tracker_table::predict_all(floats, counters, held);
-    let counts = track(
+    let answer = track(
         settings,
         frame,
         last,
@@ -179,6 +188,10 @@ pub fn advance(
         work64,
         work32,
     );
+    // No stage refuses an accepted frame.
+    let AssignmentAnswer::Assigned(counts) = answer else {
+        return refused(Verdict::Refused(Refusal::WorkShort));
+    };
     Advanced {
         verdict,
         started: counts.detections,

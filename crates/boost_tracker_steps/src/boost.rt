@@ -1,7 +1,8 @@
-// Step 2 of a frame, the boosts of the scores, and the distances that both boosts and the association read.
+// Step 2 of a frame, the boosts of the scores, and the distances that both boosts and the association read. Each stage gives its verdict: the sizes fit, so it is accepted.
 use crate::gather::RowOf;
 use crate::gather::rows;
 use crate::gather::since;
+use assoc::Verdict;
 use boost_tracker_dlo::DloSettings;
 use boost_tracker_dlo::dlo_confidence_boost;
 use boost_tracker_dlo::get_mh_dist_matrix;
@@ -14,9 +15,10 @@ ghost use lib.ListN.{length};
 ghost use Rattle.laws.specs.Grid.{grid};
 ghost use Rattle.boost_tracker_dlo.specs.MhDist.{getMhDistMatrix};
 ghost use Rattle.boost_tracker_table.specs.Table.{capacity, tracks};
+ghost use Rattle.boost_tracker_table.specs.Lent.{callWith};
 ghost use Rattle.boost_tracker_definition.specs.Update as Update;
 ghost use Rattle.boost_tracker_definition.specs.Update.{trackerAt, dloSettings};
-ghost use Rattle.boost_tracker_steps.specs.Private.{Distant, Scored, SinceLow};
+ghost use Rattle.boost_tracker_steps.specs.Private.{accepted, Distant, Scored, SinceLow};
 
 fn mh_dist_with(
     floats: &[f32],
@@ -27,60 +29,47 @@ fn mh_dist_with(
     x: &mut [f32],
     sigma: &mut [f32],
     out: &mut [f32],
-)
+) -> Verdict
     requires sizes { ⌜ Distant boxes held (length (now corners)) (length (now out)) ⌝ }
     requires rows { ⌜ (length (now x) ≡ held * 4) × (length (now sigma) ≡ held * 4) ⌝ }
-    ensures { λ _. ⌜ now (out .exit) ≡ grid (getMhDistMatrix (now (corners .entry)) (trackerAt (tracks (now (floats .entry)) (now (counters .entry)) held))) boxes held (now (out .entry)) ⌝ }
+    ensures { λ r. ⌜ callWith r (now (out .exit))
+        ≡ accepted (grid (getMhDistMatrix (now (corners .entry)) (trackerAt (tracks (now (floats .entry)) (now (counters .entry)) held))) boxes held (now (out .entry))) ⌝ }
 {
     rows(RowOf::State, floats, counters, held, x);
     rows(RowOf::SigmaInv, floats, counters, held, sigma);
-    get_mh_dist_matrix(boxes, held, corners, x, sigma, out);
+    get_mh_dist_matrix(boxes, held, corners, x, sigma, out)
 }
 
-// The distance of each box to each held track, over the front of out: the Rust's get_mh_dist_matrix.
+// The distance of each box to each held track, over the front of out: the Rust's get_mh_dist_matrix. Where they are not wanted, as by a DLO boost without the rich similarity, out is left.
 pub(crate) fn mh_dist(
+    wanted: bool,
     floats: &[f32],
     counters: &[u64],
     held: usize,
     boxes: usize,
     corners: &[f32],
     out: &mut [f32],
-)
+) -> Verdict
     requires { ⌜ Distant boxes held (length (now corners)) (length (now out)) ⌝ }
-    ensures { λ _. ⌜ now (out .exit) ≡ grid (getMhDistMatrix (now (corners .entry)) (trackerAt (tracks (now (floats .entry)) (now (counters .entry)) held))) boxes held (now (out .entry)) ⌝ }
+    ensures { λ r. ⌜ callWith r (now (out .exit))
+        ≡ accepted (cond wanted (grid (getMhDistMatrix (now (corners .entry)) (trackerAt (tracks (now (floats .entry)) (now (counters .entry)) held))) boxes held (now (out .entry))) (now (out .entry))) ⌝ }
 {
-    let end = held * 4;
-    let mut x = [0.0f32; 1020];
-    let mut sigma = [0.0f32; 1020];
-    mh_dist_with(
-        floats,
-        counters,
-        held,
-        boxes,
-        corners,
-        &mut x[..end],
-        &mut sigma[..end],
-        out,
-    );
-}
-
-// Only the rich similarity of the DLO boost reads the distances.
-fn rich_mh_dist(
-    rich: bool,
-    floats: &[f32],
-    counters: &[u64],
-    held: usize,
-    boxes: usize,
-    corners: &[f32],
-    out: &mut [f32],
-)
-    requires { ⌜ Distant boxes held (length (now corners)) (length (now out)) ⌝ }
-    ensures { λ _. ⌜ now (out .exit) ≡ cond rich (grid (getMhDistMatrix (now (corners .entry)) (trackerAt (tracks (now (floats .entry)) (now (counters .entry)) held))) boxes held (now (out .entry))) (now (out .entry)) ⌝ }
-{
-    if rich {
-        mh_dist(floats, counters, held, boxes, corners, out);
-        return;
+    if wanted {
+        let end = held * 4;
+        let mut x = [0.0f32; 1020];
+        let mut sigma = [0.0f32; 1020];
+        return mh_dist_with(
+            floats,
+            counters,
+            held,
+            boxes,
+            corners,
+            &mut x[..end],
+            &mut sigma[..end],
+            out,
+        );
     }
+    Verdict::Accepted
 }
 
 fn dlo_settings(settings: Settings) -> DloSettings
@@ -96,7 +85,7 @@ fn dlo_settings(settings: Settings) -> DloSettings
     }
 }
 
-fn dlo_with(
+fn dlo(
     settings: Settings,
     floats: &[f32],
     counters: &[u64],
@@ -107,67 +96,34 @@ fn dlo_with(
     times: &mut [u32],
     work: &mut [f32],
     scores: &mut [f32],
-)
+) -> Verdict
     requires sizes { ⌜ Scored held (length (now floats)) (length (now counters)) (length (now corners)) (length (now trks)) (length (now confs)) (length (now work)) (length (now scores)) ⌝ }
     requires low { ⌜ SinceLow held (tracks (now floats) (now counters) held) ⌝ }
     requires room { ⌜ length (now times) ≡ held ⌝ }
-    ensures { λ _. ⌜ now (scores .exit) ≡ Update.dlo settings (now (corners .entry)) (now (trks .entry)) (now (confs .entry)) (tracks (now (floats .entry)) (now (counters .entry)) held) (now (scores .entry)) ⌝ }
-{
-    let boxes = scores.len();
-    since(floats, counters, held, times);
-    rich_mh_dist(
-        settings.use_rich_similarity,
-        floats,
-        counters,
-        held,
-        boxes,
-        corners,
-        work,
-    );
-    dlo_confidence_boost(
-        dlo_settings(settings),
-        boxes,
-        held,
-        corners,
-        trks,
-        confs,
-        times,
-        work,
-        scores,
-    );
-}
-
-fn dlo(
-    settings: Settings,
-    floats: &[f32],
-    counters: &[u64],
-    held: usize,
-    corners: &[f32],
-    trks: &[f32],
-    confs: &[f32],
-    work: &mut [f32],
-    scores: &mut [f32],
-)
-    requires sizes { ⌜ Scored held (length (now floats)) (length (now counters)) (length (now corners)) (length (now trks)) (length (now confs)) (length (now work)) (length (now scores)) ⌝ }
-    requires low { ⌜ SinceLow held (tracks (now floats) (now counters) held) ⌝ }
-    ensures { λ _. ⌜ now (scores .exit) ≡ Update.afterDlo settings (now (corners .entry)) (now (trks .entry)) (now (confs .entry)) (tracks (now (floats .entry)) (now (counters .entry)) held) (now (scores .entry)) ⌝ }
+    ensures { λ r. ⌜ callWith r (now (scores .exit))
+        ≡ accepted (Update.afterDlo settings (now (corners .entry)) (now (trks .entry)) (now (confs .entry)) (tracks (now (floats .entry)) (now (counters .entry)) held) (now (scores .entry))) ⌝ }
 {
     if settings.use_dlo_boost & (held > 0) {
-        let mut times = [0u32; 255];
-        dlo_with(
-            settings,
-            floats,
-            counters,
+        let boxes = scores.len();
+        since(floats, counters, held, times);
+        let rich = settings.use_rich_similarity;
+        let distances = mh_dist(rich, floats, counters, held, boxes, corners, work);
+        let Verdict::Accepted = distances else {
+            return distances;
+        };
+        return dlo_confidence_boost(
+            dlo_settings(settings),
+            boxes,
             held,
             corners,
             trks,
             confs,
-            &mut times[..held],
+            times,
             work,
             scores,
         );
-        return;
     }
+    Verdict::Accepted
 }
 
 fn duo(
@@ -179,14 +135,18 @@ fn duo(
     corners: &[f32],
     work: &mut [f32],
     scores: &mut [f32],
-)
+) -> Verdict
     requires { ⌜ (held ≤ capacity (length (now floats)) (length (now counters))) × Distant (length (now scores)) held (length (now corners)) (length (now work)) ⌝ }
-    ensures { λ _. ⌜ now (scores .exit) ≡ Update.afterDuo settings frame (now (corners .entry)) (tracks (now (floats .entry)) (now (counters .entry)) held) (now (scores .entry)) ⌝ }
+    ensures { λ r. ⌜ callWith r (now (scores .exit))
+        ≡ accepted (Update.afterDuo settings frame (now (corners .entry)) (tracks (now (floats .entry)) (now (counters .entry)) held) (now (scores .entry))) ⌝ }
 {
     if settings.use_duo_boost & (held > 0) {
         let boxes = scores.len();
-        mh_dist(floats, counters, held, boxes, corners, work);
-        duo_confidence_boost(
+        let distances = mh_dist(true, floats, counters, held, boxes, corners, work);
+        let Verdict::Accepted = distances else {
+            return distances;
+        };
+        return duo_confidence_boost(
             frame,
             settings.det_thresh,
             boxes,
@@ -195,8 +155,8 @@ fn duo(
             work,
             scores,
         );
-        return;
     }
+    Verdict::Accepted
 }
 
 // Both boosts, over predicted tracks. Each stores its distances over the front of work.
@@ -211,13 +171,15 @@ pub(crate) fn boost(
     confs: &[f32],
     work: &mut [f32],
     scores: &mut [f32],
-)
+) -> Verdict
     requires sizes { ⌜ Scored held (length (now floats)) (length (now counters)) (length (now corners)) (length (now trks)) (length (now confs)) (length (now work)) (length (now scores)) ⌝ }
     requires low { ⌜ SinceLow held (tracks (now floats) (now counters) held) ⌝ }
-    ensures { λ _. ⌜ now (scores .exit) ≡ Update.afterDuo settings frame (now (corners .entry)) (tracks (now (floats .entry)) (now (counters .entry)) held)
-        (Update.afterDlo settings (now (corners .entry)) (now (trks .entry)) (now (confs .entry)) (tracks (now (floats .entry)) (now (counters .entry)) held) (now (scores .entry))) ⌝ }
+    ensures { λ r. ⌜ callWith r (now (scores .exit))
+        ≡ accepted (Update.afterDuo settings frame (now (corners .entry)) (tracks (now (floats .entry)) (now (counters .entry)) held)
+        (Update.afterDlo settings (now (corners .entry)) (now (trks .entry)) (now (confs .entry)) (tracks (now (floats .entry)) (now (counters .entry)) held) (now (scores .entry)))) ⌝ }
 {
-    dlo(
+    let mut times = [0u32; 255];
+    let boosted = dlo(
         settings,
         floats,
         counters,
@@ -225,9 +187,13 @@ pub(crate) fn boost(
         corners,
         trks,
         confs,
+        &mut times[..held],
         work,
         scores,
     );
+    let Verdict::Accepted = boosted else {
+        return boosted;
+    };
     duo(
         settings,
         frame,
@@ -237,5 +203,5 @@ pub(crate) fn boost(
         corners,
         work,
         scores,
-    );
+    )
 }

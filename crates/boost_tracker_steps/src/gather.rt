@@ -2,10 +2,10 @@
 use boost_tracker_dlo::sigma_inv;
 use boost_tracker_table::load;
 use records::BOX_VALUES;
-use strack::kalman_filter::DetectBox;
 use strack::rect::Rect;
 use strack::rect::Xyxy;
 use strack::strack::KalmanBoxTracker;
+use strack_filter::kalman_filter::DetectBox;
 ghost use mathlib.Core.Path.{_≡_};
 ghost use Prim.Native.Nat.{_+_, _*_, _≤_};
 ghost use lib.ListN.{length};
@@ -13,10 +13,10 @@ ghost use Rattle.laws.specs.Packed.{packed};
 ghost use Rattle.boost_tracker_dlo.specs.MhDist.{row};
 ghost use Rattle.records.specs.BoxRecord.{boxValues};
 ghost use Rattle.boost_tracker_table.specs.Table.{capacity, tracks};
-ghost use Rattle.boost_tracker_table.specs.Verdict.{boxesIn};
+ghost use Rattle.boost_tracker_verdict.specs.Verdict.{boxesIn};
 ghost use Rattle.boost_tracker_definition.specs.Update as Update;
 ghost use Rattle.boost_tracker_definition.specs.Update.{cornersOf, xyxyOf, trackerAt};
-ghost use Rattle.boost_tracker_steps.specs.Private.{fourFloats, rowOf, sinceOf, SinceLow, Lent, Gathered};
+ghost use Rattle.boost_tracker_steps.specs.Private.{fourFloats, rowOf, sinceOf, SinceLow, LocalRoom, Gathered};
 
 // Four floats of a flat list: the corners of a box, or a state x, y, h, r.
 pub(crate) struct Four {
@@ -174,7 +174,7 @@ pub(crate) fn gather(
     of_tracks: &mut [f32],
     of_confs: &mut [f32],
 )
-    requires sizes { ⌜ Lent held (boxesIn (now objects)) (length (now «of_boxes»)) (length (now «of_scores»)) (length (now «of_tracks»)) (length (now «of_confs»)) ⌝ }
+    requires sizes { ⌜ LocalRoom held (boxesIn (now objects)) (length (now «of_boxes»)) (length (now «of_scores»)) (length (now «of_tracks»)) (length (now «of_confs»)) ⌝ }
     requires room { ⌜ held ≤ capacity (length (now floats)) (length (now counters)) ⌝ }
     ensures { λ _. ⌜ Gathered (now (objects .entry)) (tracks (now (floats .entry)) (now (counters .entry)) held) (now («of_boxes» .exit)) (now («of_scores» .exit)) (now («of_tracks» .exit)) (now («of_confs» .exit)) ⌝ }
 {

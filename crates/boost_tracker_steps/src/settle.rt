@@ -4,27 +4,25 @@ use crate::gather::of_corners;
 use crate::gather::put_four;
 use crate::gather::xyxy_of;
 use assoc::AssignmentAnswer;
-use assoc::AssignmentCounts;
 use assoc::AssociateParams;
+use assoc::Refusal;
+use assoc::Verdict;
 use boost_tracker_table::Settings;
 ghost use mathlib.Core.Path.{_≡_};
 ghost use mathlib.Core.Bool.{cond};
 ghost use Prim.Native.Nat.{_+_, _*_, _≤_, _<_};
-ghost use lib.ListN.{length, getD, set, take};
+ghost use lib.ListN.{length, getD, set};
 ghost use lib.Ieee.{nan, le};
 ghost use Rattle.laws.specs.Splice.{splice};
 ghost use Rattle.laws.specs.Over.{Pushed};
-ghost use Rattle.assoc_similarity.specs.declared.refusal.Verdict.the-variants.{Accepted};
-ghost use Rattle.assoc_matching.specs.declared.assignment.AssignmentAnswer.the-variants.{Assigned};
-ghost use Rattle.assoc.specs.Association.{ious, associate};
-ghost use Rattle.assoc.specs.Answers.{AssociateEnds};
 ghost use Rattle.records.specs.BoxRecord.{boxValues};
-ghost use Rattle.boost_tracker_table.specs.Table.{tracks};
-ghost use Rattle.boost_tracker_table.specs.Verdict.{boxesIn};
+ghost use Rattle.boost_tracker_table.specs.Lent.{callWith};
+ghost use Rattle.boost_tracker_verdict.specs.Verdict.{boxesIn};
 ghost use Rattle.boost_tracker_definition.specs.Update as Update;
 ghost use Rattle.boost_tracker_definition.specs.Update.{cornersOf, xyxyOf, remainInds, detScores};
 ghost use Rattle.boost_tracker_definition.specs.Plain.{Above};
-ghost use Rattle.boost_tracker_steps.specs.Private.{Sized, ListRoom, KeptBoxes, Retained, SettleRoom, Settled};
+ghost use Rattle.boost_tracker_steps.specs.AllSteps as AllSteps;
+ghost use Rattle.boost_tracker_steps.specs.Private.{Sized, KeptBoxes, Retained, StartRoom, settledCall};
 
 // ---- step 3
 
@@ -114,116 +112,15 @@ fn params(settings: Settings, boxes: usize, held: usize) -> AssociateParams
     }
 }
 
-fn no_counts() -> AssignmentCounts {
-    AssignmentCounts {
-        pairs: 0,
-        detections: 0,
-        tracks: 0,
-        turns: 0,
-        scans: 0,
+// The refusal of a stage as the association's. An accepted stage has none.
+pub(crate) fn refused_by(verdict: Verdict) -> AssignmentAnswer {
+    match verdict {
+        Verdict::Accepted => AssignmentAnswer::Refused(Refusal::TooShort),
+        Verdict::Refused(why) => AssignmentAnswer::Refused(why),
     }
 }
 
-// The pairs of the retained boxes and the tracks, and the boxes without one. The distances lie in the front of work32.
-fn pair(
-    settings: Settings,
-    boxes: usize,
-    held: usize,
-    corners: &[f32],
-    trks: &[f32],
-    confs: &[f32],
-    scores: &[f32],
-    pair_boxes: &mut [usize],
-    pair_tracks: &mut [usize],
-    unmatched: &mut [usize],
-    left: &mut [usize],
-    work64: &mut [f64],
-    work32: &mut [f32],
-) -> AssignmentCounts
-    requires sizes { ⌜ Sized boxes held (length (now corners)) (length (now trks)) (length (now confs)) (length (now scores)) (length (now work64)) (length (now work32)) ⌝ }
-    requires lists { ⌜ ListRoom boxes held (length (now «pair_boxes»)) (length (now «pair_tracks»)) (length (now unmatched)) (length (now left)) ⌝ }
-    ensures { λ r. ⌜ AssociateEnds Accepted boxes held (ious boxes held (now (corners .entry)) (now (trks .entry))) (settings .«iou_threshold»)
-        (associate (Update.params settings boxes held) boxes held (now (corners .entry)) (now (trks .entry)) (take (boxes * held) (now (work32 .entry))) (now (confs .entry)) (now (scores .entry)))
-        (now («pair_boxes» .entry)) (now («pair_tracks» .entry)) (now (unmatched .entry)) (now (left .entry)) (now (work64 .entry)) (now (work32 .entry))
-        (Assigned r) (now («pair_boxes» .exit)) (now («pair_tracks» .exit)) (now (unmatched .exit)) (now (left .exit)) (now (work64 .exit)) (now (work32 .exit)) ⌝ }
-{
-    let params = params(settings, boxes, held);
-    let answer = assoc::associate_within(
-        params,
-        boxes,
-        held,
-        corners,
-        trks,
-        confs,
-        scores,
-        pair_boxes,
-        pair_tracks,
-        unmatched,
-        left,
-        work64,
-        work32,
-    );
-    let AssignmentAnswer::Assigned(counts) = answer else {
-        return no_counts();
-    };
-    counts
-}
-
 // ---- the steps in a row
-
-fn settle_with(
-    settings: Settings,
-    last: u64,
-    held: usize,
-    floats: &mut [f32],
-    counters: &mut [u64],
-    corners: &[f32],
-    trks: &[f32],
-    confs: &[f32],
-    scores: &[f32],
-    pair_boxes: &mut [usize],
-    pair_tracks: &mut [usize],
-    unmatched: &mut [usize],
-    left: &mut [usize],
-    work64: &mut [f64],
-    work32: &mut [f32],
-) -> AssignmentCounts
-    requires sizes { ⌜ SettleRoom held last (length (now floats)) (length (now counters)) (length (now corners)) (length (now trks)) (length (now confs)) (length (now scores)) (length (now work64)) (length (now work32)) ⌝ }
-    requires above { ⌜ Above (settings .«det_thresh») (now scores) ⌝ }
-    requires lists { ⌜ ListRoom (length (now scores)) held (length (now «pair_boxes»)) (length (now «pair_tracks»)) (length (now unmatched)) (length (now left)) ⌝ }
-    ensures { λ r. ⌜ Settled settings last (now (corners .entry)) (now (scores .entry)) (now (trks .entry)) (now (confs .entry)) (tracks (now (floats .entry)) (now (counters .entry)) held)
-        (now (floats .entry)) (now (counters .entry)) (now (work64 .entry)) (now (work32 .entry)) r (now (floats .exit)) (now (counters .exit)) (now (work64 .exit)) (now (work32 .exit)) ⌝ }
-{
-    let boxes = scores.len();
-    mh_dist(floats, counters, held, boxes, corners, work32);
-    let counts = pair(
-        settings,
-        boxes,
-        held,
-        corners,
-        trks,
-        confs,
-        scores,
-        pair_boxes,
-        pair_tracks,
-        unmatched,
-        left,
-        work64,
-        work32,
-    );
-    boost_tracker_follow::follow(
-        floats,
-        counters,
-        held,
-        last,
-        corners,
-        counts,
-        pair_boxes,
-        pair_tracks,
-        unmatched,
-    );
-    counts
-}
 
 // The retained boxes paired with the tracks, which are corrected, and tracks started for the others. How many of each there are.
 pub(crate) fn settle(
@@ -238,32 +135,50 @@ pub(crate) fn settle(
     scores: &[f32],
     work64: &mut [f64],
     work32: &mut [f32],
-) -> AssignmentCounts
-    requires sizes { ⌜ SettleRoom held last (length (now floats)) (length (now counters)) (length (now corners)) (length (now trks)) (length (now confs)) (length (now scores)) (length (now work64)) (length (now work32)) ⌝ }
+) -> AssignmentAnswer
+    requires sizes { ⌜ Sized held (length (now corners)) (length (now trks)) (length (now confs)) (length (now scores)) (length (now work64)) (length (now work32)) ⌝ }
+    requires room { ⌜ StartRoom held (length (now scores)) last (length (now floats)) (length (now counters)) ⌝ }
     requires above { ⌜ Above (settings .«det_thresh») (now scores) ⌝ }
-    ensures { λ r. ⌜ Settled settings last (now (corners .entry)) (now (scores .entry)) (now (trks .entry)) (now (confs .entry)) (tracks (now (floats .entry)) (now (counters .entry)) held)
-        (now (floats .entry)) (now (counters .entry)) (now (work64 .entry)) (now (work32 .entry)) r (now (floats .exit)) (now (counters .exit)) (now (work64 .exit)) (now (work32 .exit)) ⌝ }
+    ensures { λ r. ⌜ callWith r (AllSteps.lentWith (now (floats .exit)) (now (counters .exit)) (now (work64 .exit)) (now (work32 .exit)))
+        ≡ settledCall settings last (now (corners .entry)) (now (scores .entry)) (now (trks .entry)) (now (confs .entry)) held
+        (AllSteps.lentWith (now (floats .entry)) (now (counters .entry)) (now (work64 .entry)) (now (work32 .entry))) ⌝ }
 {
     let boxes = scores.len();
+    let distances = mh_dist(true, floats, counters, held, boxes, corners, work32);
+    let Verdict::Accepted = distances else {
+        return refused_by(distances);
+    };
     let mut pair_boxes = [0usize; 255];
     let mut pair_tracks = [0usize; 255];
     let mut unmatched = [0usize; 255];
     let mut left = [0usize; 255];
-    settle_with(
-        settings,
-        last,
+    let paired = assoc::associate_within(
+        params(settings, boxes, held),
+        boxes,
         held,
-        floats,
-        counters,
         corners,
         trks,
         confs,
         scores,
-        &mut pair_boxes[..boxes],
-        &mut pair_tracks[..boxes],
-        &mut unmatched[..boxes],
-        &mut left[..held],
+        &mut pair_boxes,
+        &mut pair_tracks,
+        &mut unmatched,
+        &mut left,
         work64,
         work32,
+    );
+    let AssignmentAnswer::Assigned(counts) = paired else {
+        return paired;
+    };
+    boost_tracker_follow::follow(
+        floats,
+        counters,
+        held,
+        last,
+        corners,
+        counts,
+        &pair_boxes,
+        &pair_tracks,
+        &unmatched,
     )
 }

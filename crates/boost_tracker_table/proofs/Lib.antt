@@ -1,4 +1,3 @@
--- Laws that the proofs share. Assumes nothing.
-pub mod Finite
+-- Laws is for callers of the functions on the table, Walks what the proofs here share. Assumes nothing.
+pub mod Laws
 pub mod Walks
-pub mod Soundness

@@ -1,13 +1,13 @@
 -- What the operations on the table leave and what their loops know: the tracks passed lie in the front, and those to come are as they were. Assumes nothing.
 use mathlib.Core.Path.{_≡_, refl, sym, ap, _∙_}
-use mathlib.Core.Bool.{true, false}
+use mathlib.Core.Bool.{Bool, true, false}
 use mathlib.Core.List.{List, [], _∷_, _++_, map, append-assoc, append-nil}
 use Prim.Native.Nat.{ℕ, zero, suc, _+_, _-_, _*_, _≤_, _<_, min, zero-le}
 use native.Mathlib.Nat.{le-refl, min-eq-right, zero-mul, suc-mul, add-mul, add-comm}
 use native.Mathlib.Numerals.{add-one}
 use native.Mathlib.Omega.{arith}
-use lib.ListN.{length, length-append, length-replicate, set, drop, replicate, replicate-append-replicate}
-use lib.Seq.{set-out, take-at}
+use lib.ListN.{length, length-append, length-replicate, getD, set, drop, replicate, replicate-append-replicate}
+use lib.Seq.{set-out, set-getD, take-at}
 use lib.Ieee.{Float}
 use borrow.Author.Tests.{le-leb, lt-leb}
 use Rattle.laws.specs.Tab.{tab, length-tab, map-tab}
@@ -15,11 +15,23 @@ use Rattle.laws.specs.Kept.{Keeping, keep-start, keep-ahead, keep-on, keep-end}
 use Rattle.laws.specs.Splice.{splice}
 use Rattle.laws.specs.Laid.{rows, laid, rows-append}
 use Rattle.floats.specs.Single as single
-use Rattle.boost_tracker_table.specs.Table.{placeFloats, placeCounters, Track, trackAt, floatsOf, countersOf, blank, capacity, placed, tracks, pushed, young, Laying, Retired, filledUp, Emptied}
+use Rattle.strack.specs.declared.rect.Xyxy.{Xyxy}
+use Rattle.strack_filter.specs.KalmanFilter.{updatable}
+use Rattle.strack.specs.Strack.{update}
+use Rattle.strack.proofs.Laws.{update-accepted, update-refused}
+use Rattle.boost_tracker_table.specs.Table.{placeFloats, placeCounters, Room, Track, trackAt, floatsOf, countersOf, blank, capacity, placed, tracks, corrected, pushed, young, Laying, Retired, filledUp, Emptied}
 use Rattle.boost_tracker_table.specs.Private.{Kept}
-use Rattle.boost_tracker_table.specs.Laws.{Room, capacity-room, tracks-placed, tracks-many, lay-here, lay-none, lay-lengths, same-place, lay-behind, lay-on, lay-set, pushed-room}
+use Rattle.boost_tracker_table.proofs.Laws.{capacity-room, tracks-placed, tracks-many, lay-here, lay-none, lay-lengths, same-place, lay-behind, lay-on, lay-set, pushed-room}
 
 -- ---- one track
+
+-- a refused correction hands the track back as it was
+refused-same : (t : Track) (bbox : Xyxy) {u : Track} → (12, u) ≡ update t bbox → update t bbox .1 ≡ t
+refused-same t bbox {u} q = by-cases (updatable (t .kf)) refl
+  where
+    by-cases : (b : Bool) → updatable (t .kf) ≡ b → update t bbox .1 ≡ t
+    by-cases true e = let z : _≡_ {A = ℕ} 12 0 = ap (λ (a : ℕ × Track). a .0) (q ∙ update-accepted t bbox e) in absurd (omega arith)
+    by-cases false e = rw (update-refused t bbox e)
 
 module _ (f : List Float) (c : List ℕ) (held : ℕ) where
   pub stored : (i : ℕ) (t : Track) {f′ : List Float} {c′ : List ℕ} → i < placed (length f) (length c) held → f′ ≡ splice f (i * placeFloats) (floatsOf t) → c′ ≡ splice c (i * placeCounters) (countersOf t)
@@ -28,6 +40,16 @@ module _ (f : List Float) (c : List ℕ) (held : ℕ) where
 
   pub not-stored : (i : ℕ) (t : Track) → placed (length f) (length c) held ≤ i → Laying f c f c (set (tracks f c held) i t)
   not-stored i t h = rw (set-out (tracks f c held) i t (rw (tracks-placed f c held) h)) (lay-here f c held)
+
+  -- track i was loaded; its correction is stored, or refused
+  module _ (i : ℕ) (bbox : Xyxy) {t u : Track} (e : t ≡ getD (tracks f c held) i blank) where
+    pub correction-stored : {f′ : List Float} {c′ : List ℕ} → (0, u) ≡ update t bbox → Laying f c f′ c′ (set (tracks f c held) i u) → Laying f c f′ c′ (corrected (tracks f c held) i bbox)
+    correction-stored q w = rw (← e, ← q) w
+
+    pub correction-refused : (12, u) ≡ update t bbox → Laying f c f c (corrected (tracks f c held) i bbox)
+    correction-refused q =
+        let same = refused-same (getD (tracks f c held) i blank) bbox (rw e at q) in
+        rw (same, set-getD (tracks f c held) i blank) (lay-here f c held)
 
   pub appended : (t : Track) {f′ : List Float} {c′ : List ℕ} → held < capacity (length f) (length c) → f′ ≡ splice f (held * placeFloats) (floatsOf t) → c′ ≡ splice c (held * placeCounters) (countersOf t)
       → Laying f c f′ c′ (pushed (capacity (length f) (length c)) (tracks f c held) t)
@@ -186,6 +208,6 @@ module _ {f₀ : List Float} {c₀ : List ℕ} {ts : List Track} {places : ℕ} 
       let k : ℕ = w .blanks in
       let all : length ts + k ≡ capacity (length f₀) (length c₀) = omega (arith, w .count, w .upto, h, e) in
       record {
-        floats = w .laying .floats ∙ blank-filled floatsOf placeFloats single.zero refl ts k f₀ ∙ ap (λ (n : ℕ). filledUp floatsOf placeFloats single.zero ts n f₀) all;
+        floats = w .laying .floats ∙ blank-filled floatsOf placeFloats single.plusZero refl ts k f₀ ∙ ap (λ (n : ℕ). filledUp floatsOf placeFloats single.plusZero ts n f₀) all;
         counters = w .laying .counters ∙ blank-filled countersOf placeCounters 0 refl ts k c₀ ∙ ap (λ (n : ℕ). filledUp countersOf placeCounters 0 ts n c₀) all;
       }

@@ -3,7 +3,7 @@
 use mathlib.Core.Path.{_≡_}
 use mathlib.Core.Bool.{Bool}
 use mathlib.Core.List.{List, [], _∷_, _++_}
-use Prim.Native.Nat.{ℕ, _+_, _-_, _*_, _/_, min}
+use Prim.Native.Nat.{ℕ, _+_, _-_, _*_, _/_, _≤_, min}
 use lib.Dec.{leb}
 use lib.ListN.{length, getD, set, take, drop, replicate}
 use lib.Ieee.{Float, nan}
@@ -11,9 +11,9 @@ use Rattle.laws.specs.Tab.{tab}
 use Rattle.laws.specs.Laid.{rows, laid}
 use Rattle.laws.specs.Sieve.{sieve}
 use Rattle.strack.specs.declared.rect.Xyxy.{Xyxy}
-use Rattle.strack.specs.declared.kalman_filter.Pair.{Pair}
+use Rattle.strack_filter.specs.declared.kalman_filter.Pair.{Pair}
 use Rattle.strack.specs.declared.strack.KalmanBoxTracker.{KalmanBoxTracker}
-use Rattle.floats.specs.Single.{zero}
+use Rattle.floats.specs.Single.{plusZero}
 use Rattle.strack.specs.Strack.{update}
 
 abbrev pub Track : Type 0
@@ -64,7 +64,7 @@ trackAt f c i = trackOf (take placeFloats (drop (i * placeFloats) f)) (take plac
 
 -- what a place of zeros holds
 abbrev pub blankPair : Pair
-blankPair = record { p = zero; v = zero; a = zero; b = zero; c = zero; d = zero }
+blankPair = record { p = plusZero; v = plusZero; a = plusZero; b = plusZero; c = plusZero; d = plusZero }
 
 abbrev pub blank : Track
 blank = record { kf = record { x = blankPair; y = blankPair; h = blankPair; r = blankPair }; id = 0; since = 0; streak = 0; age = 0 }
@@ -78,6 +78,12 @@ capacity floats counters = min (min (floats / placeFloats) (counters / placeCoun
 -- a count above the capacity, as no sound table has it, stands for the capacity
 abbrev pub placed : ℕ → ℕ → ℕ → ℕ
 placed floats counters held = min held (capacity floats counters)
+
+-- n places lie within slices of these lengths
+pub record Room (floats counters n : ℕ) : Type 0 where
+  pub few : n ≤ 255
+  pub in-floats : n * placeFloats ≤ floats
+  pub in-counters : n * placeCounters ≤ counters
 
 -- the tracks that a table with this count holds
 unfoldable pub tracks : List Float → List ℕ → ℕ → List Track
@@ -115,5 +121,5 @@ filledUp enc s nought ts places l = rows enc ts ++ (replicate (places * s - leng
 
 -- the table holds ts, every place beyond is zero, and cells past the capacity are as in f₀ and c₀
 pub record Emptied (f₀ : List Float) (c₀ : List ℕ) (ts : List Track) (f : List Float) (c : List ℕ) : Type 0 where
-  pub floats : f ≡ filledUp floatsOf placeFloats zero ts (capacity (length f₀) (length c₀)) f₀
+  pub floats : f ≡ filledUp floatsOf placeFloats plusZero ts (capacity (length f₀) (length c₀)) f₀
   pub counters : c ≡ filledUp countersOf placeCounters 0 ts (capacity (length f₀) (length c₀)) c₀

@@ -2,9 +2,10 @@
 use crate::place::track_at;
 use crate::record::record_of;
 use crate::table::placed;
-use crate::table::smaller;
 use records::TRACK_BYTES;
+use records::Written;
 use records::write_track;
+use refusals::smaller;
 use strack::strack::KalmanBoxTracker;
 ghost use mathlib.Core.Path.{_≡_};
 ghost use mathlib.Core.Bool.{cond};
@@ -30,7 +31,10 @@ fn emit_one(t: KalmanBoxTracker, w: usize, frame: u32, hits: u64, out: &mut [u8]
     ensures bytes { λ _. ⌜ now (out .exit) ≡ cond (emits frame hits t) (splice (now (out .entry)) (w * trackBytes) (recordBytes frame t)) (now (out .entry)) ⌝ }
 {
     if emits(t, frame, hits) {
-        write_track(record_of(frame, t), w, out);
+        // There is room, so it is never short.
+        let Written::Bytes(_) = write_track(record_of(frame, t), w, out) else {
+            return w;
+        };
         return w + 1;
     }
     w

@@ -1,7 +1,7 @@
 // A track in its place of the lent table, read and stored by parts.
-use strack::kalman_filter::KalmanFilter;
-use strack::kalman_filter::Pair;
 use strack::strack::KalmanBoxTracker;
+use strack_filter::kalman_filter::KalmanFilter;
+use strack_filter::kalman_filter::Pair;
 ghost use mathlib.Core.Path.{_≡_};
 ghost use Prim.Native.Nat.{_+_, _*_, _≤_};
 ghost use lib.ListN.{length};

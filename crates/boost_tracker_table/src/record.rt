@@ -5,7 +5,7 @@ use strack::strack::KalmanBoxTracker;
 ghost use mathlib.Core.Path.{_≡_};
 ghost use Rattle.boost_tracker_table.specs.Record.{recordOf};
 
-pub fn record_of(frame: u32, t: KalmanBoxTracker) -> TrackRecord
+pub(crate) fn record_of(frame: u32, t: KalmanBoxTracker) -> TrackRecord
     ensures { λ r. ⌜ r ≡ recordOf frame t ⌝ }
 {
     let state = t.get_state();

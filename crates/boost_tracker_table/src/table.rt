@@ -3,25 +3,20 @@ use crate::place::PLACE_COUNTERS;
 use crate::place::PLACE_FLOATS;
 use crate::place::put_track;
 use crate::place::track_at;
-use strack::kalman_filter::KalmanFilter;
-use strack::kalman_filter::Pair;
+use refusals::smaller;
 use strack::rect::Xyxy;
 use strack::strack::KalmanBoxTracker;
 use strack::strack::TrackCorrection;
+use strack_filter::kalman_filter::KalmanFilter;
+use strack_filter::kalman_filter::Pair;
 ghost use mathlib.Core.Path.{_≡_};
 ghost use mathlib.Core.List.{map};
-ghost use Prim.Native.Nat.{_+_, _*_, _≤_, min};
+ghost use Prim.Native.Nat.{_+_, _*_, _≤_};
 ghost use lib.ListN.{length, getD, set};
-ghost use Rattle.strack.specs.Strack.{predict as predictTrack, update as updateTrack};
+ghost use Rattle.strack.specs.Strack.{predict as predictTrack};
 ghost use Rattle.boost_tracker_table.specs.Table as Table;
 ghost use Rattle.boost_tracker_table.specs.Table.{placeFloats, placeCounters, tracks, blankPair, pushed, Laying, Retired, Emptied};
 ghost use Rattle.boost_tracker_table.specs.Private.{Kept};
-
-pub(crate) fn smaller(a: usize, b: usize) -> usize
-    ensures { λ r. ⌜ r ≡ min a b ⌝ }
-{
-    if a <= b { a } else { b }
-}
 
 // How many tracks a table of these lengths can hold.
 pub fn capacity(floats: usize, counters: usize) -> usize
@@ -34,7 +29,7 @@ pub fn capacity(floats: usize, counters: usize) -> usize
 }
 
 // How many of the held tracks have a place.
-pub(crate) fn placed(floats: usize, counters: usize, held: usize) -> usize
+pub fn placed(floats: usize, counters: usize, held: usize) -> usize
     ensures { λ r. ⌜ r ≡ Table.placed floats counters held ⌝ }
 {
     smaller(held, capacity(floats, counters))
@@ -85,7 +80,7 @@ pub fn load(floats: &[f32], counters: &[u64], held: usize, i: usize) -> KalmanBo
 }
 
 // Stores over track i of those held; past them nothing.
-pub fn store(floats: &mut [f32], counters: &mut [u64], held: usize, i: usize, t: KalmanBoxTracker)
+fn store(floats: &mut [f32], counters: &mut [u64], held: usize, i: usize, t: KalmanBoxTracker)
     ensures { λ _. ⌜ Laying (now (floats .entry)) (now (counters .entry)) (now (floats .exit)) (now (counters .exit)) (set (tracks (now (floats .entry)) (now (counters .entry)) held) i t) ⌝ }
 {
     if i < placed(floats.len(), counters.len(), held) {
@@ -93,22 +88,15 @@ pub fn store(floats: &mut [f32], counters: &mut [u64], held: usize, i: usize, t:
     }
 }
 
-// The track that a correction hands back.
-fn corrected(t: KalmanBoxTracker, bbox: Xyxy) -> KalmanBoxTracker
-    ensures { λ r. ⌜ r ≡ updateTrack t bbox .1 ⌝ }
-{
-    match t.correct(bbox) {
-        TrackCorrection::Corrected(u) => u,
-        TrackCorrection::Refused(u) => u,
-    }
-}
-
-// Corrects track i of those held by a box.
+// Corrects track i of those held by a box. A refused correction, 12, hands the track back as it was, and so the table stays; in an accepted frame none is refused.
 pub fn correct(floats: &mut [f32], counters: &mut [u64], held: usize, i: usize, bbox: Xyxy)
     ensures { λ _. ⌜ Laying (now (floats .entry)) (now (counters .entry)) (now (floats .exit)) (now (counters .exit)) (Table.corrected (tracks (now (floats .entry)) (now (counters .entry)) held) i bbox) ⌝ }
 {
     let t = load(floats, counters, held, i);
-    store(floats, counters, held, i, corrected(t, bbox));
+    let TrackCorrection::Corrected(u) = t.correct(bbox) else {
+        return;
+    };
+    store(floats, counters, held, i, u);
 }
 
 // Stores a track behind those held, where there is a place.

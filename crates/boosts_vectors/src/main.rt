@@ -8,117 +8,136 @@
 // floats end that follow: corners of the boxes, of the retained ones, their scores, corners of the tracks, confidences,
 // states, reciprocals of the variances; the cells of the distances, of the retained boxes' distances, and of a square
 // over the larger side. Then a title, the scores of the boxes, the times since update, and the seven lists.
-mod boosts;
-mod pairs;
-
 use vectors::digest;
 use vectors::floats::float;
 use vectors::input;
-use vectors::part::at_most;
-use vectors::text;
+use vectors::lent;
+use vectors::line::Line;
+use vectors::part;
+
+fn settings(w: &[u64; 24]) -> boost_tracker_dlo::DloSettings {
+    boost_tracker_dlo::DloSettings {
+        rich: w[1] / 4 % 2 == 1,
+        corrected: w[1] / 32 % 2 == 0,
+        soft: w[1] / 8 % 2 == 1,
+        varying: w[1] / 16 % 2 == 1,
+        coef: float(w[7]),
+        thresh: float(w[2]),
+    }
+}
+
+fn params(w: &[u64; 24]) -> assoc::AssociateParams {
+    let some = w[11] > 0 && w[10] > 0;
+    assoc::AssociateParams {
+        iou_threshold: float(w[3]),
+        lambda_iou: float(w[4]),
+        lambda_mhd: float(w[5]),
+        lambda_shape: float(w[6]),
+        use_shape_similarity_correction: w[1] / 32 % 2 == 0,
+        has_mahalanobis: some,
+        has_confidence: some,
+    }
+}
+
+// Both boosts, each over the distances that it reads: the scores after each, and which boxes are retained.
+fn boosted(line: Line, w: &[u64; 24], lists: &[f32], times: &[u32], given: [f32; 255]) -> Line {
+    let mut values = given;
+    let mut cells = [0.0f32; 65025];
+    let scores = lent::floats(&mut values, w[9]);
+    let work = lent::floats(&mut cells, w[19]);
+    let n = w[9] as usize;
+    let m = w[10] as usize;
+    let a = part::floats(lists, 0, w[12]);
+    let t = part::floats(lists, w[14], w[15]);
+    let c = part::floats(lists, w[15], w[16]);
+    let x = part::floats(lists, w[16], w[17]);
+    let s = part::floats(lists, w[17], w[18]);
+    if (w[1] % 2 == 1) & (m > 0) {
+        boost_tracker_dlo::get_mh_dist_matrix(n, m, a, x, s, work);
+        boost_tracker_dlo::dlo_confidence_boost(settings(w), n, m, a, t, c, times, work, scores);
+    }
+    let after_dlo = line.digest(digest::floats(digest::START, scores));
+    if (w[1] / 2 % 2 == 1) & (m > 0) {
+        boost_tracker_dlo::get_mh_dist_matrix(n, m, a, x, s, work);
+        boost_tracker_duo::duo_confidence_boost(w[8], float(w[2]), n, m, a, work, scores);
+    }
+    let after_duo = after_dlo.digest(digest::floats(digest::START, scores));
+    after_duo
+        .number(w[11])
+        .digest(retained(float(w[2]), scores))
+}
 
 // Joins the number of each score that is at least `least`.
 fn retained(least: f32, scores: &[f32]) -> u64 {
     let mut sum = digest::START;
     for k in 0..scores.len() {
-        sum = chosen(scores[k] >= least, sum, k);
+        if scores[k] >= least {
+            sum = digest::join(sum, k as u64);
+        }
     }
     sum
 }
 
-fn chosen(kept: bool, sum: u64, k: usize) -> u64 {
-    if kept {
-        return digest::join(sum, k as u64);
+fn answer(line: Line, answer: assoc::AssignmentAnswer) -> Line {
+    match answer {
+        assoc::AssignmentAnswer::Assigned(c) => {
+            let pairs = line.number(c.pairs as u64).number(c.detections as u64);
+            let turns = pairs.number(c.tracks as u64).number(c.turns as u64);
+            turns.number(c.scans as u64)
+        }
+        assoc::AssignmentAnswer::Refused(_) => line.text(b" refused"),
     }
-    sum
 }
 
-fn boosted(
-    w: &[u64; 24],
-    a: &[f32],
-    t: &[f32],
-    c: &[f32],
-    x: &[f32],
-    s: &[f32],
-    times: &[u32],
-    scores: &mut [f32],
-) {
-    boosts::dlo(w, a, t, c, x, s, times, scores);
-    text::bar();
-    text::digest(digest::floats(digest::START, scores));
-    boosts::duo(w, a, x, s, scores);
-    text::digest(digest::floats(digest::START, scores));
-    text::number(w[11]);
-    text::digest(retained(float(w[2]), scores));
-}
-
-fn read(w: &[u64; 24], times: &mut [u32], scores: &mut [f32], lists: &mut [f32]) {
-    input::title();
-    input::floats(scores.len(), 0.0, scores);
-    input::words(times);
-    input::floats(lists.len(), 0.0, lists);
-    replayed(w, lists, times, scores);
-    paired(w, lists);
-    text::end();
-}
-
-fn replayed(w: &[u64; 24], lists: &[f32], times: &[u32], scores: &mut [f32]) {
-    let g = at_most(lists.len(), w[18]);
-    let f = at_most(g, w[17]);
-    let e = at_most(f, w[16]);
-    let d = at_most(e, w[15]);
-    let c = at_most(d, w[14]);
-    let a = at_most(c, w[12]);
-    boosted(
-        w,
-        &lists[..a],
-        &lists[c..d],
-        &lists[d..e],
-        &lists[e..f],
-        &lists[f..g],
-        times,
-        scores,
-    );
-}
-
-fn paired(w: &[u64; 24], lists: &[f32]) {
-    let g = at_most(lists.len(), w[18]);
-    let f = at_most(g, w[17]);
-    let e = at_most(f, w[16]);
-    let d = at_most(e, w[15]);
-    let c = at_most(d, w[14]);
-    let b = at_most(c, w[13]);
-    let a = at_most(b, w[12]);
-    pairs::pairs(
-        w,
-        &lists[a..b],
-        &lists[b..c],
-        &lists[c..d],
-        &lists[d..e],
-        &lists[e..f],
-        &lists[f..g],
-    );
+// The pairing of the retained boxes with the tracks, by their distances.
+fn paired(line: Line, w: &[u64; 24], lists: &[f32]) -> Line {
+    let mut cells = [0.0f32; 65025];
+    let mut pairs = [7777usize; 255];
+    let mut more = [7777usize; 255];
+    let mut boxes = [7777usize; 255];
+    let mut tracks = [7777usize; 255];
+    let mut doubles = [0.0f64; 65025];
+    let mut floats = [0.0f32; 260100];
+    let distance = lent::floats(&mut cells, w[20]);
+    let p = lent::numbers(&mut pairs, 255);
+    let q = lent::numbers(&mut more, 255);
+    let r = lent::numbers(&mut boxes, 255);
+    let s = lent::numbers(&mut tracks, 255);
+    let u = lent::doubles(&mut doubles, 65025);
+    let v = lent::floats(&mut floats, 260100);
+    let n = w[11] as usize;
+    let m = w[10] as usize;
+    let b = part::floats(lists, w[12], w[13]);
+    let e = part::floats(lists, w[13], w[14]);
+    let t = part::floats(lists, w[14], w[15]);
+    let c = part::floats(lists, w[15], w[16]);
+    let x = part::floats(lists, w[16], w[17]);
+    let y = part::floats(lists, w[17], w[18]);
+    boost_tracker_dlo::get_mh_dist_matrix(n, m, b, x, y, distance);
+    let measured = line.digest(digest::floats(digest::START, distance));
+    let said = assoc::associate(params(w), n, m, b, t, distance, c, e, p, q, r, s, u, v);
+    let sum = digest::numbers(digest::numbers(digest::START, p), q);
+    answer(measured, said).digest(digest::numbers(digest::numbers(sum, r), s))
 }
 
 // One record; false where there is none left.
 fn replay() -> bool {
     let mut w = [0u64; 24];
-    input::numbers(24, 0, &mut w);
+    input::words(24, 0, &mut w);
     if w[0] != 1 {
         return false;
     }
-    let mut times = [0u32; 255];
+    let title = Line::titled().bar();
     let mut scores = [0.0f32; 255];
-    let mut lists = [0.0f32; 5610];
-    let tracks = at_most(255, w[10]);
-    let boxes = at_most(255, w[9]);
-    let all = at_most(5610, w[18]);
-    read(
-        &w,
-        &mut times[..tracks],
-        &mut scores[..boxes],
-        &mut lists[..all],
-    );
+    let mut of_tracks = [0u32; 255];
+    let mut floats = [0.0f32; 5610];
+    let times = lent::counts(&mut of_tracks, w[10]);
+    let lists = lent::floats(&mut floats, w[18]);
+    input::floats(w[9] as usize, 0.0, &mut scores);
+    input::counts(255, 0, times);
+    input::floats(5610, 0.0, lists);
+    let boosts = boosted(title, &w, lists, times, scores).bar();
+    paired(boosts, &w, lists).print();
     true
 }
 

@@ -22,8 +22,8 @@ x ⊘ y = div binary32 x y
 
 -- ---- the constants by their bits, as the code has them
 
-abbrev pub zero : Float
-zero = ofBits binary32 0
+abbrev pub plusZero : Float
+plusZero = ofBits binary32 0
 
 abbrev pub one : Float
 one = ofBits binary32 0x3f80_0000
@@ -44,7 +44,7 @@ abbrev pub millionth : Float
 millionth = ofBits binary32 0x3586_37bd
 
 -- and what they are: whole numbers, and the f32 nearest to 1 / 100 and to 1 / 1000000
-pub whole : (zero ≡ ofInt binary32 (pos 0)) × (one ≡ ofInt binary32 (pos 1)) × (two ≡ ofInt binary32 (pos 2)) × (ten ≡ ofInt binary32 (pos 10)) × (tenThousand ≡ ofInt binary32 (pos 10000))
+pub whole : (plusZero ≡ ofInt binary32 (pos 0)) × (one ≡ ofInt binary32 (pos 1)) × (two ≡ ofInt binary32 (pos 2)) × (ten ≡ ofInt binary32 (pos 10)) × (tenThousand ≡ ofInt binary32 (pos 10000))
 unfolding ofBits ofInt
 whole = (refl, refl, refl, refl, refl)
 

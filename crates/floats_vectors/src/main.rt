@@ -11,42 +11,6 @@ use check::same;
 use vectors::floats::bits;
 use vectors::floats::float_of;
 
-enum Function {
-    Max,
-    Min,
-    Abs,
-    Sqrt,
-    Powi,
-    Powf,
-    Exp,
-    Unknown,
-}
-
-fn function_of(name: &[u8]) -> Function {
-    if same(name, b"max     ") {
-        return Function::Max;
-    }
-    if same(name, b"min     ") {
-        return Function::Min;
-    }
-    if same(name, b"abs     ") {
-        return Function::Abs;
-    }
-    if same(name, b"sqrt    ") {
-        return Function::Sqrt;
-    }
-    if same(name, b"powi    ") {
-        return Function::Powi;
-    }
-    if same(name, b"powf_1_5") {
-        return Function::Powf;
-    }
-    if same(name, b"exp     ") {
-        return Function::Exp;
-    }
-    Function::Unknown
-}
-
 // What a hexadecimal digit stands for, and 16 for any other byte.
 fn digit(c: u8) -> u32
     ensures { λ r. ⌜ r < 17 ⌝ }
@@ -97,35 +61,51 @@ enum Outcome {
     BadLine,
 }
 
-// The outcome of a function of two operands.
-fn of_two(function: Function, x: f32, digits: &[u8]) -> Outcome {
-    let Operand::Word(word) = word_of(digits) else {
-        return Outcome::BadLine;
-    };
-    match function {
-        Function::Max => Outcome::Value(floats::max(x, float_of(word))),
-        Function::Min => Outcome::Value(floats::min(x, float_of(word))),
-        Function::Powi => Outcome::Value(floats::powi(x, signed_of(word))),
-        _ => Outcome::BadLine,
+fn of_one(name: &[u8], x: f32) -> Outcome {
+    if same(name, b"abs     ") {
+        return Outcome::Value(floats::abs(x));
     }
+    if same(name, b"sqrt    ") {
+        return Outcome::Value(floats::sqrt(x));
+    }
+    if same(name, b"powf_1_5") {
+        return Outcome::Value(floats::powf_1_5(x));
+    }
+    if same(name, b"exp     ") {
+        return Outcome::Value(floats::exp(x));
+    }
+    Outcome::BadLine
+}
+
+fn of_two(name: &[u8], x: f32, word: u32) -> Outcome {
+    if same(name, b"max     ") {
+        return Outcome::Value(floats::max(x, float_of(word)));
+    }
+    if same(name, b"min     ") {
+        return Outcome::Value(floats::min(x, float_of(word)));
+    }
+    if same(name, b"powi    ") {
+        return Outcome::Value(floats::powi(x, signed_of(word)));
+    }
+    Outcome::BadLine
 }
 
 fn outcome_of(row: &[u8]) -> Outcome {
     if row.len() < 27 {
         return Outcome::BadLine;
     }
-    let Operand::Word(word) = word_of(&row[9..17]) else {
+    let Operand::Word(first) = word_of(&row[9..17]) else {
         return Outcome::BadLine;
     };
-    let x = float_of(word);
-    let function = function_of(&row[0..8]);
-    match function {
-        Function::Abs => Outcome::Value(floats::abs(x)),
-        Function::Sqrt => Outcome::Value(floats::sqrt(x)),
-        Function::Powf => Outcome::Value(floats::powf_1_5(x)),
-        Function::Exp => Outcome::Value(floats::exp(x)),
-        _ => of_two(function, x, &row[18..26]),
-    }
+    let x = float_of(first);
+    let one = of_one(&row[0..8], x);
+    let Outcome::BadLine = one else {
+        return one;
+    };
+    let Operand::Word(second) = word_of(&row[18..26]) else {
+        return Outcome::BadLine;
+    };
+    of_two(&row[0..8], x, second)
 }
 
 fn write_outcome(outcome: Outcome) -> bool {

@@ -1,16 +1,16 @@
 -- The verdict on a call, case by case, and that both ways to answer keep what `Answered` says. Assumes nothing.
-use mathlib.Core.Path.{_≡_, ap, _∙_}
+use mathlib.Core.Path.{_≡_, refl, sym, ap, _∙_}
+use mathlib.Core.Bool.{Bool, true, false, cond}
 use mathlib.Core.List.{List}
 use Prim.Native.Nat.{ℕ, _*_, _<_, _≤_}
 use native.Mathlib.Omega.{arith}
-use borrow.Author.Tests.{eq-eqb, ne-eqb, lt-ltb, le-ltb, eqb-true, eqb-false, ltb-false}
+use borrow.Author.Tests.{eq-eqb, ne-eqb, lt-ltb, le-ltb}
 use lib.Dec.{eqb, ltb}
 use lib.ListN.{length}
 use lib.Ieee.{Float}
-use Rattle.laws.specs.Choose.{cond-no, cond-yes}
 use Rattle.lapjv.specs.Answers.{refusalNumber, verdictOf, numberOf, turnsOf, scansOf, answerFor, lentAfter, Answered}
 use Rattle.lapjv_definition.specs.Bounds.{Bounds}
-use Rattle.lapjv_definition.specs.Halves.{assigning}
+use Rattle.lapjv_definition.specs.Halves.{sized, assigning}
 use Rattle.lapjv_definition.specs.Invariant.{Ready}
 use Rattle.lapjv_definition.specs.Lapjv.{Assignment, assignment, lapjv}
 use Rattle.lapjv.specs.declared.Answer.the-variants.{Assigned, Refused}
@@ -18,7 +18,8 @@ use Rattle.lapjv.specs.declared.Counts.{Counts}
 use Rattle.lapjv.specs.declared.Refusal.the-variants.{NoSide, SideAbove255, WrongSize}
 use Rattle.lapjv.specs.declared.Refusal.{Refusal}
 use Rattle.lapjv.specs.declared.Verdict.the-variants.{Fits, Unfit}
-use Rattle.lapjv_definition.proofs.HalvesLaws.{fitted, assigning-does}
+use Rattle.lapjv.specs.declared.Verdict.{Verdict}
+use Rattle.lapjv_definition.proofs.HalvesLaws.{fitting, fitted, assigning-does}
 use Rattle.lapjv_definition.proofs.Theorem.{bounds}
 
 -- ---- the verdict
@@ -52,23 +53,30 @@ module _ (n costs xs ys : ℕ) where
           unfolding verdictOf
           all-fit h = rw (ne-eqb n 0 some, le-ltb 255 n small, eq-eqb costs (n * n) ec, eq-eqb xs n ex, eq-eqb ys n h)
 
--- a call that is not refused has a side from 1 to 255 and slices of its sizes
-pub ready : {n : ℕ} {cost : List Float} {x y : List ℕ} → verdictOf n (length cost) (length x) (length y) ≡ Fits → Ready n cost x y
-unfolding verdictOf
-ready {n} {cost} {x} {y} e =
-    let (a, e₁) = cond-no (eqb n 0) _ _ _ (unfit NoSide) e in
-    let (b, e₂) = cond-no (ltb 255 n) _ _ _ (unfit SideAbove255) e₁ in
-    let (c, e₃) = cond-yes (eqb (length cost) (n * n)) _ _ _ (unfit WrongSize) e₂ in
-    let (d, e₄) = cond-yes (eqb (length x) n) _ _ _ (unfit WrongSize) e₃ in
-    let (f, e₅) = cond-yes (eqb (length y) n) _ _ _ (unfit WrongSize) e₄ in
-    record {
-      square = record { some = omega (arith, eqb-false n 0 a); small = omega (arith, ltb-false 255 n b); whole = eqb-true (length cost) (n * n) c };
-      rows = eqb-true (length x) n d;
-      cols = eqb-true (length y) n f;
-    }
+-- a call is not refused where the sizes of the two halves fit
+sizes-fit : (n costs xs ys : ℕ) → verdictOf n costs xs ys ≡ Fits → true ≡ sized n costs xs ys
+unfolding verdictOf sized
+sizes-fit n costs xs ys e = sym (ap accepted e) ∙ by-cases (eqb n 0) (ltb 255 n) (eqb costs (n * n)) (eqb xs n) (eqb ys n)
   where
-    unfit : (why : Refusal) → Unfit why ≡ Fits → ⊥
-    unfit why e = let z : _≡_ {A = ℕ} 0 1 = cc in omega arith
+    accepted : Verdict → Bool
+    accepted Fits = true
+    accepted (Unfit why) = false
+
+    by-cases : (none big costs-fit xs-fit ys-fit : Bool)
+        → accepted (cond none (Unfit NoSide) (cond big (Unfit SideAbove255) (cond costs-fit (cond xs-fit (cond ys-fit Fits (Unfit WrongSize)) (Unfit WrongSize)) (Unfit WrongSize))))
+        ≡ cond none false (cond big false (cond costs-fit (cond xs-fit (cond ys-fit true false) false) false))
+    by-cases true _ _ _ _ = refl
+    by-cases false true _ _ _ = refl
+    by-cases false false false _ _ = refl
+    by-cases false false true false _ = refl
+    by-cases false false true true false = refl
+    by-cases false false true true true = refl
+
+-- so that it has a side from 1 to 255 and slices of its sizes
+pub ready : {n : ℕ} {cost : List Float} {x y : List ℕ} → verdictOf n (length cost) (length x) (length y) ≡ Fits → Ready n cost x y
+ready {n} {cost} {x} {y} e =
+    let f = fitting n cost (length x) (length y) (sizes-fit n (length cost) (length x) (length y) e) in
+    record { square = f .square; rows = f .first; cols = f .second }
 
 -- ---- the answers
 

@@ -17,20 +17,20 @@ bit-le true = omega arith
 bit-le false = omega arith
 
 -- how many i below n there are with p i
-unfoldable pub count : (ℕ → Bool) → ℕ → ℕ
-count p zero = 0
-count p (suc n) = count p n + bit (p n)
+unfoldable pub countWhere : (ℕ → Bool) → ℕ → ℕ
+countWhere p zero = 0
+countWhere p (suc n) = countWhere p n + bit (p n)
 
-pub count-none : (p : ℕ → Bool) → 0 ≡ count p 0
-unfolding count
+pub count-none : (p : ℕ → Bool) → 0 ≡ countWhere p 0
+unfolding countWhere
 count-none p = refl
 
-pub count-more : (p : ℕ → Bool) (k : ℕ) → count p k + bit (p k) ≡ count p (k + 1)
-unfolding count
+pub count-more : (p : ℕ → Bool) (k : ℕ) → countWhere p k + bit (p k) ≡ countWhere p (k + 1)
+unfolding countWhere
 count-more p k = rw add-one
 
-pub count-few : (p : ℕ → Bool) (n : ℕ) → count p n ≤ n
-unfolding count
+pub count-few : (p : ℕ → Bool) (n : ℕ) → countWhere p n ≤ n
+unfolding countWhere
 count-few p zero = zero-le
 count-few p (suc n) = let h = count-few p n in let b = bit-le (p n) in omega arith
 
@@ -39,8 +39,8 @@ bit-mono true b h = rw (h refl) (le-refl 1)
 bit-mono false b h = zero-le
 
 -- a test that holds less often
-pub count-mono : (p q : ℕ → Bool) (n : ℕ) → ((i : ℕ) → i < n → p i ≡ true → q i ≡ true) → count p n ≤ count q n
-unfolding count
+pub count-mono : (p q : ℕ → Bool) (n : ℕ) → ((i : ℕ) → i < n → p i ≡ true → q i ≡ true) → countWhere p n ≤ countWhere q n
+unfolding countWhere
 count-mono p q zero h = zero-le
 count-mono p q (suc n) h =
     let a = count-mono p q n (λ (i : ℕ) (l : i < n) e. h i (omega arith) e) in
@@ -48,8 +48,8 @@ count-mono p q (suc n) h =
     omega arith
 
 -- one number is met once below n, or not at all
-pub count-is : (b n : ℕ) → count (λ i. eqb b i) n ≡ bit (ltb b n)
-unfolding count
+pub count-is : (b n : ℕ) → countWhere (λ i. eqb b i) n ≡ bit (ltb b n)
+unfolding countWhere
 count-is b zero = rw (le-ltb b 0 zero-le)
 count-is b (suc n) = let e = count-is b n in rw e (here (eqb b n) refl)
   where

@@ -12,14 +12,16 @@ use Rattle.laws.specs.Tab.{tab, length-tab}
 use Rattle.laws.specs.Splice.{splice}
 use Rattle.laws.specs.Laid.{laid, laid-none, laid-more, laid-rest, length-laid}
 
--- what such a loop over g 0 .. g (n - 1) knows when i are looked at, w are kept, and the list is out
-pub record Keeping {X A : Type 0} (enc : X → List A) (s : ℕ) (p : X → Bool) (g : ℕ → X) (l : List A) (n i w : ℕ) (out : List A) : Type 0 where
-  pub room : n * s ≤ length l
-  pub upto : i ≤ n
-  pub few : w ≤ i
-  pub count : w ≡ length (sieve p (tab g i))
-  pub cells : out ≡ laid enc s (sieve p (tab g i)) l
-  pub same : length out ≡ length l
+-- such a loop keeps of g 0 .. g (n - 1) those that pass p, each as its s cells
+module _ {X A : Type 0} (enc : X → List A) (s : ℕ) (p : X → Bool) (g : ℕ → X) where
+  -- what it knows when i are looked at, w are kept, and the list is out
+  pub record Keeping (l : List A) (n i w : ℕ) (out : List A) : Type 0 where
+    pub room : n * s ≤ length l
+    pub upto : i ≤ n
+    pub few : w ≤ i
+    pub count : w ≡ length (sieve p (tab g i))
+    pub cells : out ≡ laid enc s (sieve p (tab g i)) l
+    pub same : length out ≡ length l
 
 module _ {X A : Type 0} (enc : X → List A) (s : ℕ) (p : X → Bool) (g : ℕ → X) (l : List A) (n : ℕ) where
   pub keep-start : n * s ≤ length l → Keeping enc s p g l n 0 0 l

@@ -1,76 +1,33 @@
--- The larger and the smaller of two numbers, and the largest of some: what a loop that looks for a number above a bound knows. Assumes nothing.
+-- The largest of some numbers: what a loop that looks for a number above a bound knows. Assumes nothing.
 use mathlib.Core.Path.{_≡_, refl}
-use mathlib.Core.Bool.{Bool, true, false, cond}
+use mathlib.Core.Bool.{true, false}
 use mathlib.Core.Logic.{⊎-elim}
-use Prim.Native.Nat.{ℕ, zero, suc, _+_, _≤_, _<_, zero-le}
+use Prim.Native.Nat.{ℕ, zero, suc, _+_, _≤_, _<_, max, zero-le}
 use native.Mathlib.Nat.{le-refl, not-suc-le-zero, eq-or-lt-of-le, le-of-suc-le-suc}
 use native.Mathlib.Numerals.{add-one}
 use native.Mathlib.Omega.{arith}
-use lib.Dec.{ltb, leb}
-use borrow.Author.Tests.{ltb-true, ltb-false, le-leb, lt-leb, leb-true}
-
-unfoldable pub greater : ℕ → ℕ → ℕ
-greater a b = cond (ltb a b) b a
-
-unfoldable pub lesser : ℕ → ℕ → ℕ
-lesser a b = cond (ltb a b) a b
-
-pub greater-left : (a b : ℕ) → a ≤ greater a b
-unfolding greater
-greater-left a b = by-cases (ltb a b) refl
-  where
-    by-cases : (v : Bool) → ltb a b ≡ v → a ≤ cond v b a
-    by-cases true e = let h = ltb-true a b e in omega arith
-    by-cases false e = le-refl a
-
-pub greater-right : (a b : ℕ) → b ≤ greater a b
-unfolding greater
-greater-right a b = by-cases (ltb a b) refl
-  where
-    by-cases : (v : Bool) → ltb a b ≡ v → b ≤ cond v b a
-    by-cases true e = le-refl b
-    by-cases false e = ltb-false a b e
-
-pub greater-least : (a b k : ℕ) → a ≤ k → b ≤ k → greater a b ≤ k
-unfolding greater
-greater-least a b k h l = by-cases (ltb a b)
-  where
-    by-cases : (v : Bool) → cond v b a ≤ k
-    by-cases true = l
-    by-cases false = h
-
-pub lesser-greatest : (a b k : ℕ) → k ≤ a → k ≤ b → k ≤ lesser a b
-unfolding lesser
-lesser-greatest a b k h l = by-cases (ltb a b)
-  where
-    by-cases : (v : Bool) → k ≤ cond v a b
-    by-cases true = h
-    by-cases false = l
-
-pub lesser-left : (a b : ℕ) → lesser a b ≤ a
-unfolding lesser
-lesser-left a b = by-cases (ltb a b) refl
-  where
-    by-cases : (v : Bool) → ltb a b ≡ v → cond v a b ≤ a
-    by-cases true e = le-refl a
-    by-cases false e = ltb-false a b e
+use lib.Dec.{leb}
+use borrow.Author.Tests.{le-leb, lt-leb, leb-true}
 
 -- the largest of f 0 .. f (n - 1), and 0
 unfoldable pub most : (ℕ → ℕ) → ℕ → ℕ
 most f zero = 0
-most f (suc n) = greater (most f n) (f n)
+most f (suc n) = max (most f n) (f n)
 
 pub most-least : (f : ℕ → ℕ) (n k : ℕ) → ((i : ℕ) → i < n → f i ≤ k) → most f n ≤ k
 unfolding most
 most-least f zero k h = zero-le
-most-least f (suc n) k h = greater-least (most f n) (f n) k (most-least f n k (λ (i : ℕ) (l : i < n). h i (omega arith))) (h n (le-refl (suc n)))
+most-least f (suc n) k h =
+    let before = most-least f n k (λ (i : ℕ) (l : i < n). h i (omega arith)) in
+    let this = h n (le-refl (suc n)) in
+    omega arith
 
 pub most-at : (f : ℕ → ℕ) (n i : ℕ) → i < n → f i ≤ most f n
 unfolding most
 most-at f (suc n) i h =
     ⊎-elim
-    (λ (e : i ≡ n). rw e (greater-right (most f n) (f n)))
-    (λ (b : i < n). let a = most-at f n i b in let g = greater-left (most f n) (f n) in omega arith)
+    (λ (e : i ≡ n). rw e (omega arith))
+    (λ (b : i < n). let a = most-at f n i b in omega arith)
     (eq-or-lt-of-le (le-of-suc-le-suc h))
 
 pub most-ext : (f g : ℕ → ℕ) (n : ℕ) → ((i : ℕ) → i < n → f i ≡ g i) → most f n ≡ most g n

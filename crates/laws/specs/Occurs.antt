@@ -11,7 +11,7 @@ use lib.ListN.{length, getD}
 use borrow.Author.Tests.{ltb-true, eqb-true, eqb-false, lt-ltb, eq-eqb, ne-eqb}
 use Rattle.laws.specs.Tab.{tab, indices}
 use Rattle.laws.specs.Sieve.{sieve}
-use Rattle.laws.specs.Count.{bit, bit-le, count, count-is}
+use Rattle.laws.specs.Count.{bit, bit-le, countWhere, count-is}
 
 -- how often b stands in a list
 unfoldable pub occurs : ℕ → List ℕ → ℕ
@@ -23,10 +23,10 @@ unfolding occurs
 occurs-append b [] ys = omega arith
 occurs-append b (x ∷ xs) ys = let e = occurs-append b xs ys in omega arith
 
-occurs-up : (b n : ℕ) → occurs b (indices n) ≡ count (λ i. eqb b i) n
-unfolding occurs count tab
+occurs-up : (b n : ℕ) → occurs b (indices n) ≡ countWhere (λ i. eqb b i) n
+unfolding occurs countWhere tab
 occurs-up b zero = refl
-occurs-up b (suc n) = occurs-append b (indices n) (n ∷ []) ∙ rw (occurs-up b n) (ap (λ (k : ℕ). count (λ i. eqb b i) n + k) (add-zero (bit (eqb b n))))
+occurs-up b (suc n) = occurs-append b (indices n) (n ∷ []) ∙ rw (occurs-up b n) (ap (λ (k : ℕ). countWhere (λ i. eqb b i) n + k) (add-zero (bit (eqb b n))))
 
 pub occurs-indices : (b n : ℕ) → occurs b (indices n) ≡ bit (ltb b n)
 occurs-indices b n = occurs-up b n ∙ count-is b n
@@ -79,8 +79,8 @@ unfolding sumUpto
 sum-each f zero h = refl
 sum-each f (suc n) h = let a = sum-each f n (λ (i : ℕ) (l : i < n). h i (omega arith)) in let b = h n (le-refl (suc n)) in omega arith
 
-sum-count : (x n : ℕ) → sumUpto (λ b. bit (eqb b x)) n ≡ count (λ b. eqb x b) n
-unfolding sumUpto count
+sum-count : (x n : ℕ) → sumUpto (λ b. bit (eqb b x)) n ≡ countWhere (λ b. eqb x b) n
+unfolding sumUpto countWhere
 sum-count x zero = refl
 sum-count x (suc n) = rw (sum-count x n, eqb-sym n x)
 

@@ -8,7 +8,7 @@ use Rattle.records.specs.declared.Written.{Written}
 use Rattle.records.specs.declared.box_record.BoxRecord.{BoxRecord}
 use Rattle.records.specs.declared.box_record.BoxAnswer.{BoxAnswer}
 use Rattle.records.specs.declared.box_record.BoxAnswer.the-variants.{Read, Short}
-use Rattle.records.specs.Field.{le, value, five, part, floatAt}
+use Rattle.records.specs.Field.{littleEndian, value, five, part, floatAt}
 use Rattle.records.specs.Written.{WritesRecord}
 
 abbrev pub boxBytes : ℕ
@@ -19,7 +19,7 @@ abbrev pub boxValues : ℕ
 boxValues = 5
 
 abbrev pub bytesOfBox : BoxRecord → List ℕ
-bytesOfBox r = le 4 (r .frame) ++ five (r .left) (r .top) (r .width) (r .height) (r .score)
+bytesOfBox r = littleEndian 4 (r .frame) ++ five (r .left) (r .top) (r .width) (r .height) (r .score)
 
 abbrev pub boxOf : List ℕ → BoxRecord
 boxOf l = record { frame = value (part 0 4 l); left = floatAt 4 l; top = floatAt 8 l; width = floatAt 12 l; height = floatAt 16 l; score = floatAt 20 l }

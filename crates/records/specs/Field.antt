@@ -5,9 +5,9 @@ use lib.Ieee.{Float, binary32, toBits, ofBits}
 use lib.ListN.{take, drop}
 
 -- n in k bytes, the lowest first
-unfoldable pub le : ℕ → ℕ → List ℕ
-le zero n = []
-le (suc k) n = n % 256 ∷ le k (n / 256)
+unfoldable pub littleEndian : ℕ → ℕ → List ℕ
+littleEndian zero n = []
+littleEndian (suc k) n = n % 256 ∷ littleEndian k (n / 256)
 
 -- the number that bytes are read as
 unfoldable pub value : List ℕ → ℕ
@@ -23,7 +23,7 @@ float n = ofBits binary32 n
 
 -- five f32, one after the other
 abbrev pub five : Float → Float → Float → Float → Float → List ℕ
-five a b c d e = le 4 (bits a) ++ (le 4 (bits b) ++ (le 4 (bits c) ++ (le 4 (bits d) ++ le 4 (bits e))))
+five a b c d e = littleEndian 4 (bits a) ++ (littleEndian 4 (bits b) ++ (littleEndian 4 (bits c) ++ (littleEndian 4 (bits d) ++ littleEndian 4 (bits e))))
 
 -- the number, and the f32, in the bytes from `at` on
 abbrev pub part : ℕ → ℕ → List ℕ → List ℕ

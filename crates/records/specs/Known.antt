@@ -4,7 +4,7 @@ use mathlib.Core.List.{[], _∷_, _++_}
 use lib.Ieee.{nan, ofBits, toBits}
 use Rattle.records.specs.declared.box_record.BoxRecord.{BoxRecord}
 use Rattle.records.specs.declared.track_record.TrackRecord.{TrackRecord}
-use Rattle.records.specs.Field.{le, bits, float}
+use Rattle.records.specs.Field.{littleEndian, bits, float}
 use Rattle.records.specs.Text.{glyph, digits, placesUpTo, decimal, hex}
 use Rattle.records.specs.BoxRecord.{bytesOfBox}
 use Rattle.records.specs.TrackRecord.{bytesOfTrack}
@@ -19,12 +19,12 @@ abbrev pub loneTrack : TrackRecord
 loneTrack = record { frame = 1; id = 1; left = float 0x4120_0000; top = float 0x41a0_0000; width = float 0x4200_0000; height = float 0x4280_0000; confidence = float 0x3ef4_e351 }
 
 pub box-known : bytesOfBox lone ≡ 1 ∷ 0 ∷ 0 ∷ 0 ∷ 0 ∷ 0 ∷ 0x20 ∷ 0x41 ∷ 0 ∷ 0 ∷ 0xa0 ∷ 0x41 ∷ 0 ∷ 0 ∷ 0 ∷ 0x42 ∷ 0 ∷ 0 ∷ 0x80 ∷ 0x42 ∷ 0 ∷ 0 ∷ 0x40 ∷ 0x3f ∷ []
-unfolding le ofBits toBits
+unfolding littleEndian ofBits toBits
 box-known = refl
 
 pub track-known : bytesOfTrack loneTrack
     ≡ 1 ∷ 0 ∷ 0 ∷ 0 ∷ 1 ∷ 0 ∷ 0 ∷ 0 ∷ 0 ∷ 0 ∷ 0 ∷ 0 ∷ 0 ∷ 0 ∷ 0x20 ∷ 0x41 ∷ 0 ∷ 0 ∷ 0xa0 ∷ 0x41 ∷ 0 ∷ 0 ∷ 0 ∷ 0x42 ∷ 0 ∷ 0 ∷ 0x80 ∷ 0x42 ∷ 0x51 ∷ 0xe3 ∷ 0xf4 ∷ 0x3e ∷ []
-unfolding le ofBits toBits
+unfolding littleEndian ofBits toBits
 track-known = refl
 
 -- `1 1 41200000 41a00000 42000000 42800000 3ef4e351`
@@ -40,8 +40,8 @@ unfolding refusedLine decimal digits glyph placesUpTo
 refused-known = refl
 
 -- the one NaN, and the largest u64
-pub nan-known : le 4 (bits nan) ≡ 0 ∷ 0 ∷ 0xc0 ∷ 0x7f ∷ []
-unfolding le toBits
+pub nan-known : littleEndian 4 (bits nan) ≡ 0 ∷ 0 ∷ 0xc0 ∷ 0x7f ∷ []
+unfolding littleEndian toBits
 nan-known = refl
 
 pub largest-known : decimal 18446744073709551615 ≡ 49 ∷ 56 ∷ 52 ∷ 52 ∷ 54 ∷ 55 ∷ 52 ∷ 52 ∷ 48 ∷ 55 ∷ 51 ∷ 55 ∷ 48 ∷ 57 ∷ 53 ∷ 53 ∷ 49 ∷ 54 ∷ 49 ∷ 53 ∷ []

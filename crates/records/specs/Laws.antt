@@ -24,7 +24,7 @@ use Rattle.records.specs.declared.track_record.TrackAnswer.the-variants 
 use Rattle.records.specs.declared.Written.{Written}
 use Rattle.records.specs.declared.Written.the-variants as written
 use Rattle.records.specs.Written.{WritesRecord, WritesText}
-use Rattle.records.specs.Field.{le, value, bits, part}
+use Rattle.records.specs.Field.{littleEndian, value, bits, part}
 use Rattle.records.specs.Text.{places, decimal, hex}
 use Rattle.records.specs.BoxRecord.{boxBytes, bytesOfBox, boxOf, boxAt}
 use Rattle.records.specs.TrackRecord.{trackBytes, bytesOfTrack, trackOf, trackAt}
@@ -54,12 +54,12 @@ pub record TrackFits (t : TrackRecord) : Type 0 where
   pub confidence : T (fits binary32 (t .confidence))
 
 pub box-decode : (r : BoxRecord) → BoxFits r → boxOf (bytesOfBox r) ≡ r
-unfolding le
+unfolding littleEndian
 box-decode r h =
     box-fields (value-le 4 (r .frame) (h .frame)) (float-le (r .left) (h .left)) (float-le (r .top) (h .top)) (float-le (r .width) (h .width)) (float-le (r .height) (h .height)) (float-le (r .score) (h .score))
 
 pub track-decode : (t : TrackRecord) → TrackFits t → trackOf (bytesOfTrack t) ≡ t
-unfolding le
+unfolding littleEndian
 track-decode t h =
     track-fields (value-le 4 (t .frame) (h .frame)) (value-le 8 (t .id) (h .id)) (float-le (t .left) (h .left)) (float-le (t .top) (h .top)) (float-le (t .width) (h .width)) (float-le (t .height) (h .height))
     (float-le (t .confidence) (h .confidence))

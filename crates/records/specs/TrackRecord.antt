@@ -8,14 +8,14 @@ use Rattle.records.specs.declared.Written.{Written}
 use Rattle.records.specs.declared.track_record.TrackRecord.{TrackRecord}
 use Rattle.records.specs.declared.track_record.TrackAnswer.{TrackAnswer}
 use Rattle.records.specs.declared.track_record.TrackAnswer.the-variants.{Read, Short}
-use Rattle.records.specs.Field.{le, value, five, part, floatAt}
+use Rattle.records.specs.Field.{littleEndian, value, five, part, floatAt}
 use Rattle.records.specs.Written.{WritesRecord}
 
 abbrev pub trackBytes : ℕ
 trackBytes = 32
 
 abbrev pub bytesOfTrack : TrackRecord → List ℕ
-bytesOfTrack t = le 4 (t .frame) ++ (le 8 (t .id) ++ five (t .left) (t .top) (t .width) (t .height) (t .confidence))
+bytesOfTrack t = littleEndian 4 (t .frame) ++ (littleEndian 8 (t .id) ++ five (t .left) (t .top) (t .width) (t .height) (t .confidence))
 
 abbrev pub trackOf : List ℕ → TrackRecord
 trackOf l = record { frame = value (part 0 4 l); id = value (part 4 8 l); left = floatAt 12 l; top = floatAt 16 l; width = floatAt 20 l; height = floatAt 24 l; confidence = floatAt 28 l }

@@ -59,7 +59,7 @@ pub(crate) fn f32_of(b: &[u8]) -> f32
 
 // Fills the cells with n's lowest bytes.
 fn spread(cells: &mut [u8], n: u64)
-    ensures { λ _. ⌜ now (cells .exit) ≡ Field.le (length (now (cells .entry))) n ⌝ }
+    ensures { λ _. ⌜ now (cells .exit) ≡ Field.littleEndian (length (now (cells .entry))) n ⌝ }
 {
     let mut rest = n;
     let mut i = 0;
@@ -73,7 +73,7 @@ fn spread(cells: &mut [u8], n: u64)
 // Each of these writes at `at` and answers where it ended.
 pub(crate) fn put_u32(out: &mut [u8], at: usize, n: u32) -> usize
     requires { ⌜ at + 4 ≤ length (now out) ⌝ }
-    ensures { λ r. ⌜ Put at (Field.le 4 n) (now (out .entry)) r (now (out .exit)) ⌝ }
+    ensures { λ r. ⌜ Put at (Field.littleEndian 4 n) (now (out .entry)) r (now (out .exit)) ⌝ }
 {
     let end = at + 4;
     spread(&mut out[at..end], n as u64);
@@ -82,7 +82,7 @@ pub(crate) fn put_u32(out: &mut [u8], at: usize, n: u32) -> usize
 
 pub(crate) fn put_u64(out: &mut [u8], at: usize, n: u64) -> usize
     requires { ⌜ at + 8 ≤ length (now out) ⌝ }
-    ensures { λ r. ⌜ Put at (Field.le 8 n) (now (out .entry)) r (now (out .exit)) ⌝ }
+    ensures { λ r. ⌜ Put at (Field.littleEndian 8 n) (now (out .entry)) r (now (out .exit)) ⌝ }
 {
     let end = at + 8;
     spread(&mut out[at..end], n);
@@ -91,7 +91,7 @@ pub(crate) fn put_u64(out: &mut [u8], at: usize, n: u64) -> usize
 
 fn put_f32(out: &mut [u8], at: usize, x: f32) -> usize
     requires { ⌜ at + 4 ≤ length (now out) ⌝ }
-    ensures { λ r. ⌜ Put at (Field.le 4 (Field.bits x)) (now (out .entry)) r (now (out .exit)) ⌝ }
+    ensures { λ r. ⌜ Put at (Field.littleEndian 4 (Field.bits x)) (now (out .entry)) r (now (out .exit)) ⌝ }
 {
     put_u32(out, at, bits(x))
 }

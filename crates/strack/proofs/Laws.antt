@@ -7,10 +7,10 @@ use mathlib.Core.Bool.{Bool, true, false, cond}
 use lib.Dec.{ltb}
 use lib.Ieee.{ofBits, add}
 use Rattle.strack.specs.declared.rect.Xyxy.{Xyxy}
-use Rattle.strack.specs.declared.kalman_filter.KalmanFilter.{KalmanFilter}
+use Rattle.strack_filter.specs.declared.kalman_filter.KalmanFilter.{KalmanFilter}
 use Rattle.strack.specs.declared.strack.KalmanBoxTracker.{KalmanBoxTracker}
-use Rattle.strack.specs.KalmanFilter as kalman
-use Rattle.strack.specs.KalmanFilter.{updatable}
+use Rattle.strack_filter.specs.KalmanFilter as kalman
+use Rattle.strack_filter.specs.KalmanFilter.{updatable}
 use Rattle.strack.specs.Strack.{convertBboxToZ, new, predict, hit, update}
 
 -- ---- a new track

@@ -5,9 +5,9 @@ use Prim.Native.Nat.{ℕ}
 use lib.Ieee.{Float, ofBits, toBits, add, mul, div}
 use Rattle.floats.specs.Power.{powi}
 use Rattle.floats.specs.Known.{f32, bits}
-use Rattle.strack.specs.declared.kalman_filter.Pair.{Pair}
+use Rattle.strack_filter.specs.declared.kalman_filter.Pair.{Pair}
 use Rattle.strack.specs.declared.strack.KalmanBoxTracker.{KalmanBoxTracker}
-use Rattle.strack.specs.KalmanFilter.{startPair, predictPair}
+use Rattle.strack_filter.specs.KalmanFilter.{startPair, predictPair}
 use Rattle.strack.specs.Strack.{confidence, getConfidence}
 
 abbrev nineTenths : Float

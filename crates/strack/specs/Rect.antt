@@ -5,7 +5,7 @@ use Rattle.floats.specs.Pick.{larger, smaller}
 use Rattle.strack.specs.declared.rect.Rect.{Rect}
 use Rattle.strack.specs.declared.rect.Xyah.{Xyah}
 use Rattle.strack.specs.declared.rect.Xyxy.{Xyxy}
-use Rattle.floats.specs.Single.{_⊕_, _⊖_, _⊗_, _⊘_, zero, one, two}
+use Rattle.floats.specs.Single.{_⊕_, _⊖_, _⊗_, _⊘_, plusZero, one, two}
 
 abbrev pub new : Float → Float → Float → Float → Rect
 new x y width height = record { left = x; top = y; width = width; height = height }
@@ -26,7 +26,7 @@ unfoldable pub calcIou : Rect → Rect → Float
 calcIou s other =
     let iw = sharedLength (s .left) (s .width) (other .left) (other .width) in
     let ih = sharedLength (s .top) (s .height) (other .top) (other .height) in
-    cond (lt zero iw) (cond (lt zero ih) (iouOver s (area other) iw ih) zero) zero
+    cond (lt plusZero iw) (cond (lt plusZero ih) (iouOver s (area other) iw ih) plusZero) plusZero
 
 abbrev pub getXyah : Rect → Xyah
 getXyah s = record { x = s .left ⊕ s .width ⊘ two; y = s .top ⊕ s .height ⊘ two; a = s .width ⊘ s .height; h = s .height }
@@ -39,7 +39,7 @@ fromXyxy x1 y1 x2 y2 = new x1 y1 (x2 ⊖ x1) (y2 ⊖ y1)
 
 -- w = if r <= 0 { 0 } else { r * h }
 unfoldable pub widthOf : Float → Float → Float
-widthOf h r = cond (le r zero) zero (r ⊗ h)
+widthOf h r = cond (le r plusZero) plusZero (r ⊗ h)
 
 abbrev pub centred : Float → Float → Float → Float → Rect
 centred x y w h = new (x ⊖ w ⊘ two) (y ⊖ h ⊘ two) w h

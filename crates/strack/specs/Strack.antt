@@ -7,12 +7,12 @@ use lib.IntN.{ℤ, pos, negsuc}
 use lib.Ieee.{Float}
 use Rattle.floats.specs.Power.{powi}
 use Rattle.strack.specs.declared.rect.Xyxy.{Xyxy}
-use Rattle.strack.specs.declared.kalman_filter.DetectBox.{DetectBox}
-use Rattle.strack.specs.declared.kalman_filter.KalmanFilter.{KalmanFilter}
+use Rattle.strack_filter.specs.declared.kalman_filter.DetectBox.{DetectBox}
+use Rattle.strack_filter.specs.declared.kalman_filter.KalmanFilter.{KalmanFilter}
 use Rattle.strack.specs.declared.strack.KalmanBoxTracker.{KalmanBoxTracker}
 use Rattle.strack.specs.declared.strack.TrackCorrection.{TrackCorrection}
 use Rattle.strack.specs.declared.strack.TrackCorrection.the-variants.{Corrected, Refused}
-use Rattle.strack.specs.KalmanFilter as kalman
+use Rattle.strack_filter.specs.KalmanFilter as kalman
 use Rattle.strack.specs.Rect.{widthOf}
 use Rattle.floats.specs.Single.{_⊕_, _⊖_, _⊘_, two, millionth}
 

@@ -1,9 +1,9 @@
 // A track, strack.rs: the filter of a box with its id and counters, handed to predict or correct by
 // value and handed back; the conversions between corners and a measurement.
-use crate::kalman_filter::DetectBox;
-use crate::kalman_filter::FilterCorrection;
-use crate::kalman_filter::KalmanFilter;
 use crate::rect::Xyxy;
+use strack_filter::kalman_filter::DetectBox;
+use strack_filter::kalman_filter::FilterCorrection;
+use strack_filter::kalman_filter::KalmanFilter;
 ghost use mathlib.Core.Path.{_≡_};
 ghost use mathlib.Core.Bool.{cond};
 ghost use lib.Dec.{ltb};

@@ -9,8 +9,10 @@ use lib.ListN.{length, take}
 use lib.Ieee.{Float}
 use borrow.Author.Tests.{lt-ltb, le-ltb}
 use Rattle.records.specs.declared.box_record.BoxRecord.{BoxRecord}
-use Rattle.records.specs.Line.{refusedLine}
-use Rattle.boost_tracker_table.specs.declared.sound.State.{State}
+use Rattle.records.specs.BoxRecord.{boxValues}
+use Rattle.records.specs.TrackRecord.{trackBytes}
+use Rattle.records.specs.Line.{lineBytes, refusedLine}
+use Rattle.boost_tracker_verdict.specs.declared.sound.State.{State}
 use Rattle.trackbox_stream.specs.declared.rules.Refusal.{Refusal}
 use Rattle.trackbox_stream.specs.declared.rules.Next.{Next}
 use Rattle.trackbox_stream.specs.declared.rules.Next.the-variants as next
@@ -34,8 +36,8 @@ use Rattle.trackbox_feed.specs.Private.{Put, ofNext, ofEnding, itemTurn,
 -- ---- what is worked
 
 module _ (state : State) (nth : ℕ) (boxes : List Float) {t : Task} where
-  pub frame-worked : (l : Lent) {k m : ℕ} {w : Work} → t ≡ task.Frame k → m ≡ min k (length boxes / 5) → w ≡ work state nth (take (m * 5) boxes) l → w ≡ taskWork state nth t boxes l
-  frame-worked l e count q = rw e (q ∙ ap (λ (m : ℕ). work state nth (take (m * 5) boxes) l) count)
+  pub frame-worked : (l : Lent) {k m : ℕ} {w : Work} → t ≡ task.Frame k → m ≡ min k (length boxes / boxValues) → w ≡ work state nth (take (m * boxValues) boxes) l → w ≡ taskWork state nth t boxes l
+  frame-worked l e count q = rw e (q ∙ ap (λ (m : ℕ). work state nth (take (m * boxValues) boxes) l) count)
 
   pub refused-worked : (f : List Float) (c out : List ℕ) (w64 w32 : List Float) (text : List ℕ) {why : Refusal} {k last n : ℕ} {text′ : List ℕ} → t ≡ task.Refused why last → k ≡ number why
       → Put 0 (refusedLine k last) text n text′ → workWith (Stopped n) (lentWith f c out w64 w32 text′) ≡ taskWork state nth t boxes (lentWith f c out w64 w32 text)
@@ -95,12 +97,12 @@ module _ (feed : Feed) (boxes : List Float) (l : Lent) where
   fed-is (item.Record r) = refl
   fed-is (item.End rest) = refl
 
-  pub short-call : (i : Item) → length (l .text) / 87 ≤ length (l .output) / 32 → callWith Short l boxes ≡ fed feed i l boxes
+  pub short-call : (i : Item) → length (l .text) / lineBytes ≤ length (l .memory .output) / trackBytes → callWith Short l boxes ≡ fed feed i l boxes
   short-call i h =
-      let short : callWith Short l boxes ≡ callThen feed l boxes (itemCall i) = rw (le-ltb (length (l .output) / 32) (length (l .text) / 87) h) in
+      let short : callWith Short l boxes ≡ callThen feed l boxes (itemCall i) = rw (le-ltb (length (l .memory .output) / trackBytes) (length (l .text) / lineBytes) h) in
       short ∙ fed-is i
 
-  pub turn-call : (i : Item) {t : Turn} {k : Task} {w : Worked} {l′ : Lent} {a : Fed} {b : List Float} → length (l .output) / 32 < length (l .text) / 87 → t ≡ turnOf feed i → k ≡ taskOf (feed .opened) t
+  pub turn-call : (i : Item) {t : Turn} {k : Task} {w : Worked} {l′ : Lent} {a : Fed} {b : List Float} → length (l .memory .output) / trackBytes < length (l .text) / lineBytes → t ≡ turnOf feed i → k ≡ taskOf (feed .opened) t
       → workWith w l′ ≡ taskWork (feed .table) (feed .opened .first) k boxes l → b ≡ boxesTurn (feed .opened .boxes) t w boxes → a ≡ answerTurn feed t w → callWith a l′ b ≡ fed feed i l boxes
   turn-call i {t} {k} {w} {l′} {a} {b} room told tasked worked held answered =
       let left : callWith a l′ b ≡ callWith (answerTurn feed t w) l′ (boxesTurn (feed .opened .boxes) t w boxes) = rw (answered, held) in
@@ -108,7 +110,7 @@ module _ (feed : Feed) (boxes : List Float) (l : Lent) where
       subst (λ (x : Work). callWith a l′ b ≡ callWith (answerTurn feed t (x .answer)) (x .lent) (boxesTurn (feed .opened .boxes) t (x .answer) boxes))
       (worked ∙ ap (λ (k : Task). taskWork (feed .table) (feed .opened .first) k boxes l) tasked)
       left in
-      let call : cond (ltb 0 (feed .empty)) emptyCall (itemCall i) ≡ callThen feed l boxes (itemCall i) = rw (lt-ltb (length (l .output) / 32) (length (l .text) / 87) room) in
+      let call : cond (ltb 0 (feed .empty)) emptyCall (itemCall i) ≡ callThen feed l boxes (itemCall i) = rw (lt-ltb (length (l .memory .output) / trackBytes) (length (l .text) / lineBytes) room) in
       is ∙ ap (λ (t : Turn). turnCall feed t l boxes) told
       ∙ empty-first (ltb 0 (feed .empty)) (itemTurn (feed .opened) i)
       ∙ ap (cond (ltb 0 (feed .empty)) emptyCall) (item-is i)

@@ -16,9 +16,9 @@ use Rattle.records.specs.declared.track_record.TrackAnswer.{TrackAnswer}
 use Rattle.records.specs.declared.track_record.TrackAnswer.the-variants as track-answer
 use Rattle.records.specs.declared.Written.{Written}
 use Rattle.records.specs.declared.Written.the-variants as written
-use Rattle.records.specs.TrackRecord.{trackAt}
+use Rattle.records.specs.TrackRecord.{trackBytes, trackAt}
 use Rattle.records.specs.Written.{WritesText}
-use Rattle.records.specs.Line.{line, refusedLine}
+use Rattle.records.specs.Line.{line, lineBytes, refusedLine}
 use Rattle.records.specs.Laws.{refused-most, text-fitted}
 use Rattle.records.specs.Laws.Digits.{most-places}
 use Rattle.records.specs.Laws.Lengths.{length-line}
@@ -69,20 +69,20 @@ module _ (l xs : List ℕ) (at k : ℕ) (room : at + k ≤ length l) (fits : len
 
 -- ---- a line
 
-pub line-room : (t : TrackRecord) → length (line t) ≤ 87
+pub line-room : (t : TrackRecord) → length (line t) ≤ lineBytes
 line-room t = let n = length-line t in let a = most-places (t .frame) in let b = most-places (t .id) in omega arith
 
-pub refused-room : (number nth : ℕ) → length (refusedLine number nth) ≤ 87
+pub refused-room : (number nth : ℕ) → length (refusedLine number nth) ≤ lineBytes
 refused-room number nth = let h = refused-most number nth in omega arith
 
 -- a refusal at the front of the text
-pub refused-put : (number nth : ℕ) (l : List ℕ) (w : Written) (out : List ℕ) {n : ℕ} → 87 ≤ length l → WritesText (refusedLine number nth) l w out → w ≡ written.Bytes n → Put 0 (refusedLine number nth) l n out
+pub refused-put : (number nth : ℕ) (l : List ℕ) (w : Written) (out : List ℕ) {n : ℕ} → lineBytes ≤ length l → WritesText (refusedLine number nth) l w out → w ≡ written.Bytes n → Put 0 (refusedLine number nth) l n out
 refused-put number nth l w out h e q =
     let r = refused-room number nth in
     let f = text-fitted (refusedLine number nth) l w out e (omega arith) in
     record { ends = ap countOf (sym q ∙ f .0) ∙ sym (zero-add (length (refusedLine number nth))); cells = f .1 }
 
-pub refused-fits : (number nth : ℕ) (l : List ℕ) (w : Written) (out : List ℕ) → 87 ≤ length l → WritesText (refusedLine number nth) l w out → w ≡ written.Short → ⊥
+pub refused-fits : (number nth : ℕ) (l : List ℕ) (w : Written) (out : List ℕ) → lineBytes ≤ length l → WritesText (refusedLine number nth) l w out → w ≡ written.Short → ⊥
 refused-fits number nth l w out h e q =
     let r = refused-room number nth in
     let f = text-fitted (refusedLine number nth) l w out e (omega arith) in
@@ -94,10 +94,10 @@ abbrev recordIn : TrackAnswer → TrackRecord → TrackRecord
 recordIn (track-answer.Read t) d = t
 recordIn track-answer.Short d = d
 
-module _ (out : List ℕ) (k : ℕ) (h : k < length out / 32) where
+module _ (out : List ℕ) (k : ℕ) (h : k < length out / trackBytes) where
   is-read : trackAt out k ≡ track-answer.Read (readAt out k)
   unfolding trackAt readAt
-  is-read = rw (lt-ltb k (length out / 32) h)
+  is-read = rw (lt-ltb k (length out / trackBytes) h)
 
   pub read-is : {t : TrackRecord} (a : TrackAnswer) → a ≡ trackAt out k → a ≡ track-answer.Read t → t ≡ readAt out k
   read-is {t} a e q = ap (λ (x : TrackAnswer). recordIn x t) (sym q ∙ e ∙ is-read)
@@ -110,7 +110,7 @@ module _ (out : List ℕ) (k : ℕ) (h : k < length out / 32) where
 pub record Lining (out l : List ℕ) (n k at : ℕ) (text : List ℕ) : Type 0 where
   pub upto : k ≤ n
   pub put : Put 0 (linesIn out k) l at text
-  pub low : at ≤ k * 87
+  pub low : at ≤ k * lineBytes
   pub same : length text ≡ length l
 
 lines-more : (out : List ℕ) (k : ℕ) → linesIn out (k + 1) ≡ linesIn out k ++ line (readAt out k)
@@ -122,8 +122,8 @@ pub lining-start : (out l : List ℕ) (n : ℕ) → Lining out l n 0 0 l
 unfolding linesIn rows tab
 lining-start out l n = record { upto = omega arith; put = record { ends = refl; cells = refl }; low = omega arith; same = refl }
 
-pub lining-on : {out l : List ℕ} {n k at end : ℕ} {text text′ : List ℕ} {t : TrackRecord} → Lining out l n k at text → k < n → n * 87 ≤ length l → t ≡ readAt out k
-    → Put at (line t) text end text′ → end ≤ at + 87 → Lining out l n (k + 1) end text′
+pub lining-on : {out l : List ℕ} {n k at end : ℕ} {text text′ : List ℕ} {t : TrackRecord} → Lining out l n k at text → k < n → n * lineBytes ≤ length l → t ≡ readAt out k
+    → Put at (line t) text end text′ → end ≤ at + lineBytes → Lining out l n (k + 1) end text′
 lining-on {out} {l} {n} {k} {at} {end} {text} {text′} {t} w h room e p low =
     let ends = p .ends in
     let before = w .low in

@@ -19,21 +19,24 @@ use Rattle.laws.specs.Sieve.{sieve}
 use Rattle.laws.specs.Laid.{rows, laid, laid-at}
 use Rattle.floats.specs.Power.{one, powers, powi}
 use Rattle.strack.specs.Strack.{getState, confidence}
-use Rattle.records.specs.TrackRecord.{trackOf}
+use Rattle.records.specs.TrackRecord.{trackBytes, trackOf}
 use Rattle.records.specs.Line.{line}
 use Rattle.records.specs.Laws.{TrackFits, track-decode}
 use Rattle.records.specs.Laws.Lengths.{length-track}
 use Rattle.boost_tracker_table.specs.declared.settings.Settings.{Settings}
-use Rattle.boost_tracker_table.specs.declared.sound.State.{State}
-use Rattle.boost_tracker_table.specs.declared.refusal.Verdict.the-variants.{Accepted}
-use Rattle.boost_tracker_table.specs.Table.{Track, blank, capacity, tracks}
-use Rattle.boost_tracker_table.specs.Sound.{rising, sound}
+use Rattle.boost_tracker_verdict.specs.declared.sound.State.{State}
+use Rattle.boost_tracker_verdict.specs.declared.refusal.Verdict.the-variants.{Accepted}
+use Rattle.boost_tracker_table.specs.Table.{Track, blank, tracks}
+use Rattle.boost_tracker_table.specs.Lent.{Table, tableWith, placesOf, tracksIn, holding}
+use Rattle.boost_tracker_verdict.specs.Sound.{rising, sound}
 use Rattle.boost_tracker_table.specs.Emission.{emits}
 use Rattle.boost_tracker_table.specs.Record.{nineTenths, recordOf, recordBytes}
-use Rattle.boost_tracker_table.specs.Verdict.{verdict}
-use Rattle.boost_tracker_table.specs.Ready.{Ready, ready}
+use Rattle.boost_tracker_verdict.specs.Verdict.{verdict}
+use Rattle.boost_tracker_verdict.specs.Ready.{Ready}
+use Rattle.boost_tracker_verdict.proofs.ReadyLaws.{ready}
 use Rattle.boost_tracker_definition.specs.Update.{Stages, trackerAt, steps, update, stateAfter}
 use Rattle.boost_tracker_definition.specs.Facts.{FrameFacts}
+use Rattle.boost_tracker_definition.proofs.FactLaws.{frame-facts}
 use Rattle.trackbox_feed.specs.Trackbox.{recordsOf}
 use Rattle.trackbox_feed.specs.Private.{readAt, linesIn}
 
@@ -71,11 +74,16 @@ record-fits frame t h k = record {
 
 -- ---- the ids
 
-module _ (s : Settings) (state : State) (f : List Float) (c : List ℕ) (boxes : List Float) (out work64 work32 : ℕ) (f′ : List Float) (c′ : List ℕ)
-    (e : verdict s state f c boxes out work64 work32 ≡ Accepted)
-    (facts : FrameFacts state (tracks f c (state .count)) (update s state boxes (tracks f c (state .count))) f′ c′) where
+module _ (s : Settings) (state : State) (f : List Float) (c : List ℕ) (boxes : List Float) (out work64 work32 : ℕ)
+    (e : verdict s state f c boxes out work64 work32 ≡ Accepted) where
   abbrev g : Stages
   g = update s state boxes (tracks f c (state .count))
+
+  abbrev after : Table
+  after = holding (g .retained) (tableWith f c)
+
+  facts : FrameFacts state (tracks f c (state .count)) g after
+  facts = frame-facts s state f c boxes out work64 work32 e
 
   known : Ready s state f c boxes out work64 work32
   known = ready s state f c boxes out work64 work32 e
@@ -94,9 +102,9 @@ module _ (s : Settings) (state : State) (f : List Float) (c : List ℕ) (boxes :
   last-low : stateAfter g .last < 2 ^ 64
   unfolding sound
   last-low =
-      let places : ℕ = capacity (length f′) (length c′) in
+      let places : ℕ = placesOf after in
       let then : State = stateAfter g in
-      let ts : List Track = tracks f′ c′ (then .count) in
+      let ts : List Track = tracksIn after (then .count) in
       let r₁ = and-right (leb (then .count) places) _ (facts .sound) in
       let r₂ = and-right (rising 0 ts) _ r₁ in
       let r₃ = and-right (every (λ (t : Track). leb (t .id) (then .last)) ts) _ r₂ in
@@ -136,16 +144,16 @@ module _ (s : Settings) (state : State) (f : List Float) (c : List ℕ) (boxes :
 
   -- ---- the records
 
-  read-back : (l : List ℕ) (i : ℕ) → i < length (g .output) → readAt (laid (recordBytes (g .frameCount)) 32 (g .output) l) i ≡ recordOf (g .frameCount) (getD (g .output) i blank)
+  read-back : (l : List ℕ) (i : ℕ) → i < length (g .output) → readAt (laid (recordBytes (g .frameCount)) trackBytes (g .output) l) i ≡ recordOf (g .frameCount) (getD (g .output) i blank)
   unfolding readAt
   read-back l i h =
-      ap trackOf (laid-at (recordBytes (g .frameCount)) 32 (λ t. length-track (recordOf (g .frameCount) t)) (g .output) l i blank h)
+      ap trackOf (laid-at (recordBytes (g .frameCount)) trackBytes (λ t. length-track (recordOf (g .frameCount) t)) (g .output) l i blank h)
       ∙ track-decode (recordOf (g .frameCount) (getD (g .output) i blank))
       (record-fits (g .frameCount) (getD (g .output) i blank) frame-low (ltb-true (getD (g .output) i blank .id) (2 ^ 64) (every-at inField (g .output) put-out-low i blank h)))
 
-  pub lines-are : (l : List ℕ) → linesIn (laid (recordBytes (g .frameCount)) 32 (g .output) l) (length (g .output)) ≡ rows line (recordsOf g)
+  pub lines-are : (l : List ℕ) → linesIn (laid (recordBytes (g .frameCount)) trackBytes (g .output) l) (length (g .output)) ≡ rows line (recordsOf g)
   unfolding linesIn
   lines-are l =
       ap (rows line)
-      (tab-ext (readAt (laid (recordBytes (g .frameCount)) 32 (g .output) l)) (λ (i : ℕ). recordOf (g .frameCount) (getD (g .output) i blank)) (length (g .output)) (read-back l)
+      (tab-ext (readAt (laid (recordBytes (g .frameCount)) trackBytes (g .output) l)) (λ (i : ℕ). recordOf (g .frameCount) (getD (g .output) i blank)) (length (g .output)) (read-back l)
       ∙ tab-map (recordOf (g .frameCount)) (g .output) (length (g .output)) blank refl)

@@ -9,13 +9,16 @@ use lib.Ieee.{Float}
 use Rattle.laws.specs.Splice.{splice}
 use Rattle.laws.specs.Laid.{rows}
 use Rattle.records.specs.declared.box_record.BoxRecord.{BoxRecord}
-use Rattle.records.specs.Line.{line, refusedLine}
-use Rattle.boost_tracker_table.specs.declared.refusal.Verdict.{Verdict}
-use Rattle.boost_tracker_table.specs.declared.refusal.Verdict.the-variants.{Accepted, Refused}
-use Rattle.boost_tracker_table.specs.declared.sound.State.{State}
-use Rattle.boost_tracker_table.specs.Verdict.{number, verdict}
+use Rattle.records.specs.BoxRecord.{boxValues}
+use Rattle.records.specs.TrackRecord.{trackBytes}
+use Rattle.records.specs.Line.{line, lineBytes, refusedLine}
+use Rattle.boost_tracker_verdict.specs.declared.refusal.Verdict.{Verdict}
+use Rattle.boost_tracker_verdict.specs.declared.refusal.Verdict.the-variants.{Accepted, Refused}
+use Rattle.boost_tracker_verdict.specs.declared.sound.State.{State}
+use Rattle.boost_tracker_verdict.specs.Verdict.{number, whereAccepted}
 use Rattle.boost_tracker_definition.specs.Update.{Stages, stateAfter}
-use Rattle.boost_tracker.specs.Answers.{floatsThen, countersThen, outputThen, doublesThen, singlesThen}
+use Rattle.boost_tracker.specs.Frame.{Memory, memoryWith, memoryAfter, worked}
+use Rattle.boost_tracker.specs.Frame as tracker
 use Rattle.trackbox_stream.specs.declared.rules.OpenFrame.{OpenFrame}
 use Rattle.trackbox_stream.specs.declared.rules.Next.{Next}
 use Rattle.trackbox_stream.specs.declared.rules.Next.the-variants as next
@@ -31,31 +34,25 @@ use Rattle.trackbox_feed.specs.declared.feed.Item.{Item}
 use Rattle.trackbox_feed.specs.declared.feed.Item.the-variants as item
 use Rattle.trackbox_feed.specs.declared.feed.Fed.{Fed}
 use Rattle.trackbox_feed.specs.declared.feed.Fed.the-variants.{Taken, Again, Ended, Short}
-use Rattle.trackbox_feed.specs.Trackbox.{settings, trackerWith, stages, recordsOf, begin}
+use Rattle.trackbox_feed.specs.Trackbox.{settings, recordsOf, begin}
 
 -- ---- lent memory, but for the open frame's boxes
 
 pub record Lent : Type 0 where
-  -- the table
-  pub floats : List Float
-  pub counters : List ℕ
-  -- the records that a frame puts out
-  pub output : List ℕ
-  -- for the frame's work
-  pub doubles : List Float
-  pub singles : List Float
+  -- the tracker's: the table, the records that a frame puts out, and what its work is done in
+  pub memory : Memory
   pub text : List ℕ
 
 abbrev pub lentWith : List Float → List ℕ → List ℕ → List Float → List Float → List ℕ → Lent
-lentWith floats counters output doubles singles text = record { floats = floats; counters = counters; output = output; doubles = doubles; singles = singles; text = text }
+lentWith floats counters output doubles singles text = record { memory = memoryWith floats counters output doubles singles; text = text }
 
 -- a text at the front
 abbrev pub printed : List ℕ → Lent → Lent
-printed xs l = lentWith (l .floats) (l .counters) (l .output) (l .doubles) (l .singles) (splice (l .text) 0 xs)
+printed xs l = record { memory = l .memory; text = splice (l .text) 0 xs }
 
--- a line has at most 87 bytes: there is room for one line more than for records
+-- there is room for one line more than for records
 abbrev pub hasRoom : ℕ → ℕ → Bool
-hasRoom output text = ltb (output / 32) (text / 87)
+hasRoom output text = ltb (output / trackBytes) (text / lineBytes)
 
 -- ---- a frame
 
@@ -75,17 +72,15 @@ abbrev pub answers : Verdict → ℕ → Stages → Worked
 answers Accepted nth g = Done (stateAfter g) (length (says Accepted nth g))
 answers (Refused why) nth g = Stopped (length (says (Refused why) nth g))
 
-abbrev pub workThen : Verdict → ℕ → Stages → Lent → Work
-workThen v nth g l =
-    workWith (answers v nth g)
-    (lentWith (floatsThen v g (l .floats) (l .counters)) (countersThen v g (l .floats) (l .counters)) (outputThen v g (l .output)) (doublesThen v (l .doubles)) (singlesThen v (l .singles)) (splice (l .text) 0 (says v nth g)))
+abbrev pub workBy : Verdict → ℕ → Stages → Lent → Work
+workBy v nth g l = workWith (answers v nth g) (record { memory = whereAccepted v (memoryAfter g (l .memory)) (l .memory); text = splice (l .text) 0 (says v nth g) })
 
 abbrev pub verdictOf : State → List Float → Lent → Verdict
-verdictOf state objects l = verdict settings state (l .floats) (l .counters) objects (length (l .output)) (length (l .doubles)) (length (l .singles))
+verdictOf state objects l = tracker.verdictOf settings state objects (l .memory)
 
 -- a frame of these objects; where it is turned down it names record nth
 unfoldable pub work : State → ℕ → List Float → Lent → Work
-work state nth objects l = workThen (verdictOf state objects l) nth (stages (trackerWith state (l .floats) (l .counters)) objects) l
+work state nth objects l = workBy (verdictOf state objects l) nth (worked settings state objects (l .memory)) l
 
 -- ---- what is known between two calls
 
@@ -108,7 +103,7 @@ callWith answer lent boxes = record { answer = answer; lent = lent; boxes = boxe
 
 -- the first k boxes, or as many as are lent
 abbrev pub front : ℕ → List Float → List Float
-front k boxes = take (min k (length boxes / 5) * 5) boxes
+front k boxes = take (min k (length boxes / boxValues) * boxValues) boxes
 
 -- a frame of the first k boxes
 unfoldable pub workFront : Feed → ℕ → List Float → Lent → Work
@@ -156,7 +151,7 @@ endThen feed (ending.Refused why nth) l boxes = refuses (rules.number why) nth l
 -- an empty frame comes before everything else
 abbrev pub callThen : Feed → Lent → List Float → Call → Call
 callThen feed l boxes call =
-    cond (hasRoom (length (l .output)) (length (l .text)))
+    cond (hasRoom (length (l .memory .output)) (length (l .text)))
     (cond (ltb 0 (feed .empty)) (callWith (againThen feed (workFront feed 0 boxes l .answer)) (workFront feed 0 boxes l .lent) boxes) call)
     (callWith Short l boxes)
 

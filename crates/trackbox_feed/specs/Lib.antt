@@ -1,5 +1,6 @@
 -- trackbox over lent memory. Trackbox is the definition, from document 01: the text that is printed for the bytes that are read. Feed says what one call answers and leaves,
--- and Laws has the theorem that all calls together print what the definition says. Private is only for the contracts between private functions.
+-- and Laws states that all calls together print what the definition says. Private is only for the contracts between private functions.
+-- The proofs are in proofs/.
 pub mod Trackbox
 pub mod Feed
 pub mod Private

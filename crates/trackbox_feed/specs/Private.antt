@@ -12,9 +12,9 @@ use Rattle.laws.specs.Laid.{rows}
 use Rattle.records.specs.declared.box_record.BoxRecord.{BoxRecord}
 use Rattle.records.specs.declared.track_record.TrackRecord.{TrackRecord}
 use Rattle.records.specs.Field.{part}
-use Rattle.records.specs.TrackRecord.{trackOf}
+use Rattle.records.specs.TrackRecord.{trackBytes, trackOf}
 use Rattle.records.specs.Line.{line, refusedLine}
-use Rattle.boost_tracker_table.specs.declared.sound.State.{State}
+use Rattle.boost_tracker_verdict.specs.declared.sound.State.{State}
 use Rattle.trackbox_stream.specs.declared.rules.OpenFrame.{OpenFrame}
 use Rattle.trackbox_stream.specs.declared.rules.Next.{Next}
 use Rattle.trackbox_stream.specs.declared.rules.Next.the-variants as next
@@ -43,7 +43,7 @@ pub record Put (at : ℕ) (xs l : List ℕ) (next : ℕ) (out : List ℕ) : Type
 
 -- track record k of bytes, and the lines of the first n
 unfoldable pub readAt : List ℕ → ℕ → TrackRecord
-readAt out k = trackOf (part (k * 32) 32 out)
+readAt out k = trackOf (part (k * trackBytes) trackBytes out)
 
 unfoldable pub linesIn : List ℕ → ℕ → List ℕ
 linesIn out n = rows line (tab (readAt out) n)

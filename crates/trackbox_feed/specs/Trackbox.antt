@@ -3,22 +3,24 @@
 use mathlib.Core.Path.{_≡_, refl}
 use mathlib.Core.Bool.{false}
 use mathlib.Core.List.{List, map}
-use Prim.Native.Nat.{ℕ}
+use Prim.Native.Nat.{ℕ, _*_}
 use lib.ListN.{replicate}
 use lib.Ieee.{Float, binary32, ofBits, round}
-use Rattle.floats.specs.Single.{zero}
+use Rattle.floats.specs.Single.{plusZero}
 use Rattle.records.specs.declared.box_record.BoxRecord.{BoxRecord}
 use Rattle.records.specs.declared.track_record.TrackRecord.{TrackRecord}
-use Rattle.boost_tracker_table.specs.declared.refusal.Verdict.{Verdict}
-use Rattle.boost_tracker_table.specs.declared.refusal.Verdict.the-variants.{Accepted, Refused}
+use Rattle.records.specs.BoxRecord.{boxValues}
+use Rattle.records.specs.TrackRecord.{trackBytes}
+use Rattle.boost_tracker_verdict.specs.declared.refusal.Verdict.{Verdict}
+use Rattle.boost_tracker_verdict.specs.declared.refusal.Verdict.the-variants.{Accepted, Refused}
 use Rattle.boost_tracker_table.specs.declared.settings.Settings.{Settings}
-use Rattle.boost_tracker_table.specs.declared.sound.State.{State}
+use Rattle.boost_tracker_verdict.specs.declared.sound.State.{State}
 use Rattle.boost_tracker_table.specs.Settings.{new}
-use Rattle.boost_tracker_table.specs.Table.{tracks}
+use Rattle.boost_tracker_table.specs.Table.{placeFloats, placeCounters}
+use Rattle.boost_tracker_table.specs.Lent.{Table, tableWith, tracksIn, holding}
 use Rattle.boost_tracker_table.specs.Record.{recordOf}
-use Rattle.boost_tracker_table.specs.Verdict.{number, verdict}
+use Rattle.boost_tracker_verdict.specs.Verdict.{number, verdict}
 use Rattle.boost_tracker_definition.specs.Update.{Stages, update, stateAfter}
-use Rattle.boost_tracker.specs.Answers.{floatsThen, countersThen}
 use Rattle.trackbox_stream.specs.Boxes.{frameFloats}
 use Rattle.trackbox_stream.specs.Stream.{Frame, refused, accepted}
 use Rattle.trackbox_stream.specs.Stream as stream
@@ -43,36 +45,54 @@ settings = new detThresh iouThreshold 30 3
 -- the tracker between two frames: the lent table, and what stands beside it
 pub record Tracker : Type 0 where
   pub state : State
-  pub floats : List Float
-  pub counters : List ℕ
+  pub table : Table
 
-abbrev pub trackerWith : State → List Float → List ℕ → Tracker
-trackerWith state floats counters = record { state = state; floats = floats; counters = counters }
+abbrev pub trackerWith : State → Table → Tracker
+trackerWith state table = record { state = state; table = table }
 
 abbrev pub stages : Tracker → List Float → Stages
-stages t objects = update settings (t .state) objects (tracks (t .floats) (t .counters) (t .state .count))
+stages t objects = update settings (t .state) objects (tracksIn (t .table) (t .state .count))
 
 -- the records that a frame puts out
 abbrev pub recordsOf : Stages → List TrackRecord
 recordsOf g = map (recordOf (g .frameCount)) (g .output)
 
 abbrev pub frameThen : Verdict → Tracker → Stages → Frame Tracker
-frameThen Accepted t g = accepted (trackerWith (stateAfter g) (floatsThen Accepted g (t .floats) (t .counters)) (countersThen Accepted g (t .floats) (t .counters))) (recordsOf g)
+frameThen Accepted t g = accepted (trackerWith (stateAfter g) (holding (g .retained) (t .table))) (recordsOf g)
 frameThen (Refused why) t g = refused (number why)
 
 -- of so many bytes lent for the output, and so many f64 and f32 for work
 unfoldable pub frame : ℕ → ℕ → ℕ → Tracker → List Float → Frame Tracker
-frame out work64 work32 t objects = frameThen (verdict settings (t .state) (t .floats) (t .counters) objects out work64 work32) t (stages t objects)
+frame out work64 work32 t objects = frameThen (verdict settings (t .state) (t .table .floats) (t .table .counters) objects out work64 work32) t (stages t objects)
 
 -- ---- the program
 
--- 64 places of 24 floats and 4 counters, all zero
-abbrev pub begin : Tracker
-begin = trackerWith (record { count = 0; last = 0; frames = 0 }) (replicate 1536 zero) (replicate 256 0)
+-- what is lent: for 64 tracks and 64 boxes
+abbrev pub lentFloats : ℕ
+lentFloats = 64 * placeFloats
 
--- 64 records of 32 bytes, 64 × 64 f64 and 4 × 64 × 64 f32
+abbrev pub lentCounters : ℕ
+lentCounters = 64 * placeCounters
+
+abbrev pub lentBoxes : ℕ
+lentBoxes = 64 * boxValues
+
+abbrev pub lentOutput : ℕ
+lentOutput = 64 * trackBytes
+
+-- n × n f64 and 4 × n × n f32, n the larger of both
+abbrev pub lentDoubles : ℕ
+lentDoubles = 64 * 64
+
+abbrev pub lentSingles : ℕ
+lentSingles = 4 * lentDoubles
+
+-- a table that is all zero
+abbrev pub begin : Tracker
+begin = trackerWith (record { count = 0; last = 0; frames = 0 }) (tableWith (replicate lentFloats plusZero) (replicate lentCounters 0))
+
 abbrev pub updated : Tracker → List BoxRecord → Frame Tracker
-updated t rs = frame 2048 4096 16384 t (frameFloats rs)
+updated t rs = frame lentOutput lentDoubles lentSingles t (frameFloats rs)
 
 -- the bytes that are printed for the bytes that are read
 unfoldable pub trackbox : List ℕ → List ℕ

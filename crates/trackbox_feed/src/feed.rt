@@ -4,6 +4,8 @@ use crate::frame::Worked;
 use crate::frame::work_task;
 use boost_tracker::State;
 use records::BoxRecord;
+use records::LINE_BYTES;
+use records::TRACK_BYTES;
 use trackbox_stream::Ending;
 use trackbox_stream::Next;
 use trackbox_stream::OpenFrame;
@@ -231,7 +233,7 @@ pub fn take(
     ensures { λ a. ⌜ callWith a (lentWith (now (floats .exit)) (now (counters .exit)) (now (out .exit)) (now (work64 .exit)) (now (work32 .exit)) (now (text .exit))) (now (boxes .exit))
         ≡ Spec.fed feed item (lentWith (now (floats .entry)) (now (counters .entry)) (now (out .entry)) (now (work64 .entry)) (now (work32 .entry)) (now (text .entry))) (now (boxes .entry)) ⌝ }
 {
-    if text.len() / 87 <= out.len() / 32 {
+    if text.len() / LINE_BYTES <= out.len() / TRACK_BYTES {
         return Fed::Short;
     }
     let opened = feed.opened;

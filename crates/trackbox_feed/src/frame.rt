@@ -5,10 +5,11 @@ use boost_tracker::Settings;
 use boost_tracker::State;
 use boost_tracker::Verdict;
 use boost_tracker::update;
+use records::BOX_VALUES;
+use refusals::smaller;
 use trackbox_stream::Refusal;
 ghost use mathlib.Core.Path.{_≡_};
 ghost use mathlib.Core.Bool.{true};
-ghost use Prim.Native.Nat.{min};
 ghost use lib.ListN.{length};
 ghost use Rattle.trackbox_feed.specs.Trackbox as Trackbox;
 ghost use Rattle.trackbox_feed.specs.Feed.{lentWith, workWith, hasRoom};
@@ -37,15 +38,6 @@ fn settings() -> Settings
     Settings::new(0.6, 0.3, 30, 3)
 }
 
-fn smaller(a: usize, b: usize) -> usize
-    ensures { λ r. ⌜ r ≡ min a b ⌝ }
-{
-    if a < b {
-        return a;
-    }
-    b
-}
-
 // A frame has no more boxes than are lent. Where it is turned down it names record nth.
 pub(crate) fn work_task(
     state: State,
@@ -66,7 +58,7 @@ pub(crate) fn work_task(
     match task {
         Task::Nothing => Worked::Done(state, 0),
         Task::Frame(k) => {
-            let end = smaller(k, boxes.len() / 5) * 5;
+            let end = smaller(k, boxes.len() / BOX_VALUES) * BOX_VALUES;
             let answer = update(
                 settings(),
                 state,

@@ -2,9 +2,16 @@
 mod feed;
 mod frame;
 mod lines;
+mod sizes;
 
 pub use feed::Fed;
 pub use feed::Feed;
 pub use feed::Item;
 pub use feed::start;
 pub use feed::take;
+pub use sizes::LENT_BOXES;
+pub use sizes::LENT_COUNTERS;
+pub use sizes::LENT_DOUBLES;
+pub use sizes::LENT_FLOATS;
+pub use sizes::LENT_OUTPUT;
+pub use sizes::LENT_SINGLES;

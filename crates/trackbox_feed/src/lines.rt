@@ -1,4 +1,5 @@
 // The lines of a call: one for each track record that a frame put out, or the one of a refusal.
+use records::LINE_BYTES;
 use records::TrackAnswer;
 use records::TrackRecord;
 use records::Written;
@@ -8,16 +9,17 @@ use records::write_refused;
 ghost use mathlib.Core.Path.{_≡_};
 ghost use Prim.Native.Nat.{_+_, _*_, _/_, _≤_, _<_};
 ghost use lib.ListN.{length};
-ghost use Rattle.records.specs.Line.{line, refusedLine};
+ghost use Rattle.records.specs.TrackRecord.{trackBytes};
+ghost use Rattle.records.specs.Line.{line, lineBytes, refusedLine};
 ghost use Rattle.trackbox_feed.specs.Private.{Put, readAt, linesIn};
 
 // Each of these writes from `at` on and answers where it ended.
 fn put_line(t: TrackRecord, text: &mut [u8], at: usize) -> usize
-    requires { ⌜ at + 87 ≤ length (now text) ⌝ }
+    requires { ⌜ at + lineBytes ≤ length (now text) ⌝ }
     ensures { λ r. ⌜ Put at (line t) (now (text .entry)) r (now (text .exit)) ⌝ }
-    ensures { λ r. ⌜ r ≤ at + 87 ⌝ }
+    ensures { λ r. ⌜ r ≤ at + lineBytes ⌝ }
 {
-    let end = at + 87;
+    let end = at + LINE_BYTES;
     let Written::Bytes(n) = write_line(t, &mut text[at..end]) else {
         return at;
     };
@@ -26,7 +28,7 @@ fn put_line(t: TrackRecord, text: &mut [u8], at: usize) -> usize
 
 // Record k of the output.
 fn track(out: &[u8], k: usize) -> TrackRecord
-    requires { ⌜ k < length (now out) / 32 ⌝ }
+    requires { ⌜ k < length (now out) / trackBytes ⌝ }
     ensures { λ r. ⌜ r ≡ readAt (now (out .entry)) k ⌝ }
 {
     let TrackAnswer::Read(t) = read_track(out, k) else {
@@ -45,7 +47,7 @@ fn track(out: &[u8], k: usize) -> TrackRecord
 
 // The lines of the first n records of the output.
 pub(crate) fn put_lines(out: &[u8], n: usize, text: &mut [u8]) -> usize
-    requires { ⌜ (n ≤ length (now out) / 32) × (n * 87 ≤ length (now text)) ⌝ }
+    requires { ⌜ (n ≤ length (now out) / trackBytes) × (n * lineBytes ≤ length (now text)) ⌝ }
     ensures { λ r. ⌜ Put 0 (linesIn (now (out .entry)) n) (now (text .entry)) r (now (text .exit)) ⌝ }
 {
     let mut at = 0;
@@ -58,7 +60,7 @@ pub(crate) fn put_lines(out: &[u8], n: usize, text: &mut [u8]) -> usize
 }
 
 pub(crate) fn put_refused(number: u64, nth: u64, text: &mut [u8]) -> usize
-    requires { ⌜ 87 ≤ length (now text) ⌝ }
+    requires { ⌜ lineBytes ≤ length (now text) ⌝ }
     ensures { λ r. ⌜ Put 0 (refusedLine number nth) (now (text .entry)) r (now (text .exit)) ⌝ }
 {
     let Written::Bytes(n) = write_refused(number, nth, text) else {

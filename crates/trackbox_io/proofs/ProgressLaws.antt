@@ -5,19 +5,20 @@ use mathlib.Core.List.{List}
 use Prim.Native.Nat.{ℕ, _+_, _-_, _*_, _/_, _%_, _≤_, _<_, min, max}
 use native.Mathlib.Nat.{mul-le-mul}
 use native.Mathlib.Omega.{arith}
-use lib.Dec.{leb, ltb}
+use lib.Dec.{leb}
 use lib.ListN.{length}
 use borrow.Author.Tests.{lt-ltb, le-ltb, le-leb, lt-leb}
 use Rattle.records.specs.declared.box_record.BoxRecord.{BoxRecord}
 use Rattle.records.specs.declared.box_record.BoxAnswer.{BoxAnswer}
 use Rattle.records.specs.declared.box_record.BoxAnswer.the-variants.{Read, Short}
 use Rattle.records.specs.Field.{part}
-use Rattle.records.specs.BoxRecord.{boxOf, boxAt}
+use Rattle.records.specs.BoxRecord.{boxBytes, boxOf, boxAt}
 use Rattle.trackbox_feed.specs.declared.feed.Feed.{Feed}
 use Rattle.trackbox_feed.specs.declared.feed.Item.{Item}
 use Rattle.trackbox_feed.specs.declared.feed.Item.the-variants.{Record, End}
 use Rattle.trackbox_feed.specs.declared.feed.Fed.{Fed}
 use Rattle.trackbox_feed.specs.declared.feed.Fed.the-variants as fed
+use Rattle.trackbox_feed.specs.Trackbox.{lentDoubles}
 use Rattle.trackbox_io.specs.declared.calls.Input.{Input}
 use Rattle.trackbox_io.specs.declared.calls.Input.the-variants.{Bytes, Failed}
 use Rattle.trackbox_io.specs.declared.progress.Progress.{Progress}
@@ -25,13 +26,13 @@ use Rattle.trackbox_io.specs.Turn.{stopped, cleared, emptied, refilled, 
 
 -- ---- what is handed on
 
-pub end-is : (next got : ℕ) (input : List ℕ) → got / 24 ≤ next → End (got % 24) ≡ itemAt next got input
+pub end-is : (next got : ℕ) (input : List ℕ) → got / boxBytes ≤ next → End (got % boxBytes) ≡ itemAt next got input
 unfolding itemAt
-end-is next got input h = rw (le-leb (got / 24) next h)
+end-is next got input h = rw (le-leb (got / boxBytes) next h)
 
-box-is : (next got : ℕ) (input : List ℕ) → next < got / 24 → got ≤ length input → boxAt input next ≡ Read (boxOf (part (next * 24) 24 input))
+box-is : (next got : ℕ) (input : List ℕ) → next < got / boxBytes → got ≤ length input → boxAt input next ≡ Read (boxOf (part (next * boxBytes) boxBytes input))
 unfolding boxAt
-box-is next got input h k = rw (lt-ltb next (length input / 24) (omega (arith, h, k)))
+box-is next got input h k = rw (lt-ltb next (length input / boxBytes) (omega (arith, h, k)))
 
 abbrev of-answer : BoxAnswer → Item
 of-answer (Read r) = Record r
@@ -41,24 +42,24 @@ abbrev is-short : BoxAnswer → ℕ
 is-short (Read r) = 0
 is-short Short = 1
 
-pub record-is : (next got : ℕ) (input : List ℕ) {a : BoxAnswer} {r : BoxRecord} → next < got / 24 → got ≤ length input → a ≡ boxAt input next → a ≡ Read r → Record r ≡ itemAt next got input
+pub record-is : (next got : ℕ) (input : List ℕ) {a : BoxAnswer} {r : BoxRecord} → next < got / boxBytes → got ≤ length input → a ≡ boxAt input next → a ≡ Read r → Record r ≡ itemAt next got input
 unfolding itemAt
 record-is next got input {r = r} h k e q =
-    let z : Record r ≡ Record (boxOf (part (next * 24) 24 input)) = ap of-answer (sym q ∙ e ∙ box-is next got input h k) in
-    rw (lt-leb (got / 24) next h) z
+    let z : Record r ≡ Record (boxOf (part (next * boxBytes) boxBytes input)) = ap of-answer (sym q ∙ e ∙ box-is next got input h k) in
+    rw (lt-leb (got / boxBytes) next h) z
 
-pub never-short : (next got : ℕ) (input : List ℕ) {a : BoxAnswer} → next < got / 24 → got ≤ length input → a ≡ boxAt input next → a ≡ Short → ⊥
+pub never-short : (next got : ℕ) (input : List ℕ) {a : BoxAnswer} → next < got / boxBytes → got ≤ length input → a ≡ boxAt input next → a ≡ Short → ⊥
 never-short next got input h k e q =
     let z : _≡_ {A = ℕ} 0 1 = ap is-short (sym (box-is next got input h k) ∙ sym e ∙ q) in
     omega (arith, z)
 
 -- ---- the next record
 
-pub later-one : (next got : ℕ) → next < got / 24 → next + 1 ≡ later next got
-later-one next got h = rw (lt-ltb next (got / 24) h)
+pub later-one : (next got : ℕ) → next < got / boxBytes → next + 1 ≡ later next got
+later-one next got h = rw (lt-ltb next (got / boxBytes) h)
 
-pub later-same : (next got : ℕ) → got / 24 ≤ next → next ≡ later next got
-later-same next got h = rw (le-ltb next (got / 24) h)
+pub later-same : (next got : ℕ) → got / boxBytes ≤ next → next ≡ later next got
+later-same next got h = rw (le-ltb next (got / boxBytes) h)
 
 -- ---- what a write and a read leave
 
@@ -80,24 +81,24 @@ not-read p size e q = rw e q
 -- ---- what an answer leaves
 
 module _ (p : Progress) (size : ℕ) {a : Fed} {r : Progress} where
-  pub taken-so : {n next used : ℕ} {then : Feed} → a ≡ fed.Taken then n → next ≡ later (p .next) (p .got) → used ≡ min (p .used + n) size → r ≡ known p then next used true → r ≡ answered p size a
-  taken-so {used = used} {then = then} e l b q = rw e (q ∙ ap (λ (k : ℕ). known p then k used true) l ∙ ap (λ (k : ℕ). known p then (later (p .next) (p .got)) k true) b)
+  pub taken-so : {n next : ℕ} {then : Feed} → a ≡ fed.Taken then n → next ≡ later (p .next) (p .got) → r ≡ known p then next (min (p .used + n) size) true → r ≡ answered p size a
+  taken-so {n = n} {then = then} e l q = rw e (q ∙ ap (λ (k : ℕ). known p then k (min (p .used + n) size) true) l)
 
-  pub again-so : {n used : ℕ} {then : Feed} → a ≡ fed.Again then n → used ≡ min (p .used + n) size → r ≡ known p then (p .next) used true → r ≡ answered p size a
-  again-so {then = then} e b q = rw e (q ∙ ap (λ (k : ℕ). known p then (p .next) k true) b)
+  pub again-so : {n : ℕ} {then : Feed} → a ≡ fed.Again then n → r ≡ known p then (p .next) (min (p .used + n) size) true → r ≡ answered p size a
+  again-so e q = rw e q
 
-  pub ended-so : {n used : ℕ} → a ≡ fed.Ended n → used ≡ min (p .used + n) size → r ≡ known p (p .feed) (p .next) used false → r ≡ answered p size a
-  ended-so e b q = rw e (q ∙ ap (λ (k : ℕ). known p (p .feed) (p .next) k false) b)
+  pub ended-so : {n : ℕ} → a ≡ fed.Ended n → r ≡ known p (p .feed) (p .next) (min (p .used + n) size) false → r ≡ answered p size a
+  ended-so e q = rw e q
 
   pub short-so : a ≡ fed.Short → r ≡ stopped p → r ≡ answered p size a
   short-so e q = rw e q
 
 -- ---- what a frame needs
 
-pub few-cells : {n : ℕ} → n ≤ 64 → n * n ≤ 4096
+pub few-cells : {n : ℕ} → n ≤ 64 → n * n ≤ lentDoubles
 few-cells h = mul-le-mul h h
 
-pub needed-all : (held boxes : ℕ) → Needed held boxes 4096
+pub needed-all : (held boxes : ℕ) → Needed held boxes lentDoubles
 needed-all held boxes = record { doubles = record { enough = omega arith; bound = omega arith }; singles = record { enough = omega arith; bound = omega arith } }
 
 pub needed-square : (held boxes : ℕ) {n : ℕ} → n ≡ max held boxes → n ≤ 64 → Needed held boxes (n * n)

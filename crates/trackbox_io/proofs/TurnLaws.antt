@@ -1,8 +1,8 @@
 -- Each return of the steps of a turn is the contract's case, and what was read and what waits stay within their arrays. Assumes nothing.
 use mathlib.Core.Path.{_≡_, refl, sym, ap, subst, _∙_}
 use mathlib.Core.Bool.{Bool, true, false, not, cond, _&&_, _||_, true≢false}
-use mathlib.Core.List.{List, [], _++_, append-nil}
-use Prim.Native.Nat.{ℕ, _+_, _-_, _*_, _/_, _≤_, _<_, min}
+use mathlib.Core.List.{List, _++_, append-nil}
+use Prim.Native.Nat.{ℕ, _+_, _-_, _*_, _≤_, _<_}
 use native.Mathlib.Omega.{arith}
 use lib.Dec.{ltb}
 use lib.ListN.{length, take, drop, length-take, length-drop}
@@ -14,14 +14,15 @@ use Rattle.laws.specs.Tests.{and-left, and-right}
 use Rattle.trackbox_feed.specs.declared.feed.Item.{Item}
 use Rattle.trackbox_feed.specs.declared.feed.Fed.{Fed}
 use Rattle.trackbox_feed.specs.declared.feed.Fed.the-variants.{Taken, Again, Ended, Short}
-use Rattle.trackbox_feed.specs.Feed.{Lent, lentWith, callWith, fed}
+use Rattle.trackbox_feed.specs.Feed.{lentWith, callWith, fed}
 use Rattle.trackbox_io.specs.declared.calls.Input.{Input}
 use Rattle.trackbox_io.specs.declared.calls.Input.the-variants.{Bytes, Failed}
 use Rattle.trackbox_io.specs.declared.progress.Progress.{Progress}
 use Rattle.trackbox_io.specs.declared.turns.Ran.{Ran}
 use Rattle.trackbox_io.specs.declared.turns.Ran.the-variants as ran
-use Rattle.trackbox_io.specs.Printed.{Along, turn-along}
-use Rattle.trackbox_io.specs.Turn.{Leaves, Ends, spent, crowded, stopped, cleared, emptied, refilled, answered, itemAt, Arrays, arrays, withInput, Sizes, Stands, Empties, Within, Fills, Needed, Hands, Handed, Turned}
+use Rattle.trackbox_io.specs.Printed.{Along}
+use Rattle.trackbox_io.proofs.Theorem.{turn-along}
+use Rattle.trackbox_io.specs.Turn.{textBytes, inputBytes, Leaves, Ends, spent, crowded, emptied, refilled, answered, itemAt, Arrays, arrays, withInput, Sizes, Stands, Empties, Within, Fills, Needed, Handed, Turned}
 
 -- ---- what waits is written out
 
@@ -108,24 +109,24 @@ stands-empties p r size s e = subst Stands (sym (e .so)) (by-due (crowded (p .us
     by-due true = stands-emptied p (e .written) s
     by-due false = s
 
-stands-refilled : (p : Progress) (size : ℕ) (i : Input) → size ≡ 65520 → Stands p → Within size i → Stands (refilled p size i)
+stands-refilled : (p : Progress) (size : ℕ) (i : Input) → size ≡ inputBytes → Stands p → Within size i → Stands (refilled p size i)
 stands-refilled p size (Bytes n) z s w = record { used = s .used; got = omega (arith, w, z) }
 stands-refilled p size Failed z s w = record { used = s .used; got = s .got }
 
-pub stands-fills : (p r : Progress) (before after : List ℕ) → length before ≡ 65520 → Stands p → Fills p r before after → Stands r
+pub stands-fills : (p r : Progress) (before after : List ℕ) → length before ≡ inputBytes → Stands p → Fills p r before after → Stands r
 stands-fills p r before after z s e = subst Stands (sym (e .so)) (by-due (p .going && spent p))
   where
     by-due : (b : Bool) → Stands (cond b (refilled p (length before) (e .input)) p)
     by-due true = stands-refilled p (length before) (e .input) z s (e .within)
     by-due false = s
 
-stands-answered : (p : Progress) (size : ℕ) (a : Fed) → size ≡ 65536 → Stands p → Stands (answered p size a)
+stands-answered : (p : Progress) (size : ℕ) (a : Fed) → size ≡ textBytes → Stands p → Stands (answered p size a)
 stands-answered p size (Taken feed n) z s = record { used = omega (arith, z); got = s .got }
 stands-answered p size (Again feed n) z s = record { used = omega (arith, z); got = s .got }
 stands-answered p size (Ended n) z s = record { used = omega (arith, z); got = s .got }
 stands-answered p size Short z s = record { used = s .used; got = s .got }
 
-stands-handed : (p r : Progress) (a b : Arrays) → length (a .text) ≡ 65536 → Stands p → Handed p r a b → Stands r
+stands-handed : (p r : Progress) (a b : Arrays) → length (a .text) ≡ textBytes → Stands p → Handed p r a b → Stands r
 stands-handed p r a b z s h = by-going (p .going) refl
   where
     by-going : (g : Bool) → p .going ≡ g → Stands r

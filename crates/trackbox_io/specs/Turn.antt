@@ -8,12 +8,13 @@ use lib.Dec.{leb, ltb}
 use lib.ListN.{length, take, drop}
 use lib.Ieee.{Float}
 use Rattle.records.specs.Field.{part}
-use Rattle.records.specs.BoxRecord.{boxOf}
+use Rattle.records.specs.BoxRecord.{boxBytes, boxOf}
 use Rattle.trackbox_feed.specs.declared.feed.Feed.{Feed}
 use Rattle.trackbox_feed.specs.declared.feed.Item.{Item}
 use Rattle.trackbox_feed.specs.declared.feed.Item.the-variants.{Record, End}
 use Rattle.trackbox_feed.specs.declared.feed.Fed.{Fed}
 use Rattle.trackbox_feed.specs.declared.feed.Fed.the-variants.{Taken, Again, Ended, Short}
+use Rattle.trackbox_feed.specs.Trackbox.{lentFloats, lentCounters, lentBoxes, lentOutput, lentDoubles, lentSingles}
 use Rattle.trackbox_feed.specs.Feed.{lentWith, callWith, fed}
 use Rattle.trackbox_feed.specs.Feed as calls
 use Rattle.trackbox_feed.specs.Laws.{Serves, square}
@@ -23,16 +24,29 @@ use Rattle.trackbox_io.specs.declared.progress.Progress.{Progress}
 use Rattle.trackbox_io.specs.declared.turns.Ran.{Ran}
 use Rattle.trackbox_io.specs.declared.turns.Ran.the-variants as ran
 
+-- ---- how much the buffers hold
+
+-- 64 KiB of text, and the whole records that as many bytes have room for: so none lies across the end of the buffer
+abbrev pub textBytes : ℕ
+textBytes = 65536
+
+abbrev pub inputBytes : ℕ
+inputBytes = textBytes / boxBytes * boxBytes
+
+-- what the text has room for when a call is made
+abbrev pub callBytes : ℕ
+callBytes = 8192
+
 -- ---- what is known between two turns
 
 abbrev pub start : ℕ → Progress
 start bytes = record { feed = calls.start; left = bytes; more = true; got = 0; next = 0; used = 0; going = true; failed = false }
 
 abbrev pub spent : Progress → Bool
-spent p = leb (p .got / 24) (p .next) && p .more
+spent p = leb (p .got / boxBytes) (p .next) && p .more
 
 abbrev pub crowded : ℕ → ℕ → Bool
-crowded used size = ltb (size - used) 8192
+crowded used size = ltb (size - used) callBytes
 
 -- a call failed: nothing is handed on or written any more
 abbrev pub stopped : Progress → Progress
@@ -54,7 +68,7 @@ abbrev pub known : Progress → Feed → ℕ → ℕ → Bool → Progress
 known p feed next used going = record { feed = feed; left = p .left; more = p .more; got = p .got; next = next; used = used; going = going; failed = false }
 
 abbrev pub later : ℕ → ℕ → ℕ
-later next got = cond (ltb next (got / 24)) (next + 1) next
+later next got = cond (ltb next (got / boxBytes)) (next + 1) next
 
 -- a record is handed on again until it is taken, and then comes the next; the call's text waits behind what waits already
 abbrev pub answered : Progress → ℕ → Fed → Progress
@@ -67,7 +81,7 @@ answered p size Short = stopped p
 
 -- record `next` of the first `got` bytes; behind the last whole one the end, with the rest's length
 unfoldable pub itemAt : ℕ → ℕ → List ℕ → Item
-itemAt next got input = cond (leb (got / 24) next) (End (got % 24)) (Record (boxOf (part (next * 24) 24 input)))
+itemAt next got input = cond (leb (got / boxBytes) next) (End (got % boxBytes)) (Record (boxOf (part (next * boxBytes) boxBytes input)))
 
 -- ---- the arrays
 
@@ -85,21 +99,21 @@ abbrev pub arrays : List ℕ → List ℕ → List Float → List ℕ → List F
 arrays input text floats counters boxes output doubles singles =
     record { input = input; text = text; floats = floats; counters = counters; boxes = boxes; output = output; doubles = doubles; singles = singles }
 
--- as trackbox has them: buffers of 2730 records and of 64 KiB, 64 tracks and 64 boxes
+-- as trackbox has them
 pub record Sizes (a : Arrays) : Type 0 where
-  pub input : length (a .input) ≡ 65520
-  pub text : length (a .text) ≡ 65536
-  pub floats : length (a .floats) ≡ 1536
-  pub counters : length (a .counters) ≡ 256
-  pub boxes : length (a .boxes) ≡ 320
-  pub output : length (a .output) ≡ 2048
-  pub doubles : length (a .doubles) ≡ 4096
-  pub singles : length (a .singles) ≡ 16384
+  pub input : length (a .input) ≡ inputBytes
+  pub text : length (a .text) ≡ textBytes
+  pub floats : length (a .floats) ≡ lentFloats
+  pub counters : length (a .counters) ≡ lentCounters
+  pub boxes : length (a .boxes) ≡ lentBoxes
+  pub output : length (a .output) ≡ lentOutput
+  pub doubles : length (a .doubles) ≡ lentDoubles
+  pub singles : length (a .singles) ≡ lentSingles
 
 -- what waits lies in the text, and what was read in the buffer
 pub record Stands (p : Progress) : Type 0 where
-  pub used : p .used ≤ 65536
-  pub got : p .got ≤ 65520
+  pub used : p .used ≤ textBytes
+  pub got : p .got ≤ inputBytes
 
 -- ---- the three steps of a turn
 
@@ -122,8 +136,8 @@ pub record Fills (p r : Progress) (before after : List ℕ) : Type 0 where
 
 -- how many f64 a frame is lent: of f32 it is four times as many
 pub record Needed (held boxes n : ℕ) : Type 0 where
-  pub doubles : Serves (square held boxes) 4096 n
-  pub singles : Serves (4 * square held boxes) 16384 (4 * n)
+  pub doubles : Serves (square held boxes) lentDoubles n
+  pub singles : Serves (4 * square held boxes) lentSingles (4 * n)
 
 -- one call of `take`
 pub record Hands (p r : Progress) (a b : Arrays) : Type 0 where

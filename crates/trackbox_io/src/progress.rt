@@ -1,14 +1,20 @@
 // Where a run stands, and what it does next.
 use crate::calls::Input;
+use records::BOX_BYTES;
 use records::BoxAnswer;
 use records::read_box;
+use refusals::larger;
 use trackbox_feed::Fed;
 use trackbox_feed::Feed;
 use trackbox_feed::Item;
+use trackbox_feed::LENT_DOUBLES;
 ghost use mathlib.Core.Path.{_≡_};
-ghost use Prim.Native.Nat.{_+_, _-_, _≤_, min, max};
+ghost use Prim.Native.Nat.{_+_, _-_, _≤_, min};
 ghost use lib.ListN.{length};
 ghost use Rattle.trackbox_io.specs.Turn as Spec;
+
+// More than the lines of 64 tracks and one more.
+const CALL_BYTES: usize = 8192;
 
 // What is known between two turns.
 pub struct Progress {
@@ -48,15 +54,15 @@ pub(crate) fn start(bytes: u64) -> Progress
 pub(crate) fn spent(p: Progress) -> bool
     ensures { λ r. ⌜ r ≡ Spec.spent p ⌝ }
 {
-    (p.got / 24 <= p.next) & p.more
+    (p.got / BOX_BYTES <= p.next) & p.more
 }
 
-// Less than 8 KiB are left for the text of a call.
+// Less than CALL_BYTES are left for the text of a call.
 pub(crate) fn crowded(used: usize, size: usize) -> bool
     requires { ⌜ used ≤ size ⌝ }
     ensures { λ r. ⌜ r ≡ Spec.crowded used size ⌝ }
 {
-    size - used < 8192
+    size - used < CALL_BYTES
 }
 
 pub(crate) fn stopped(p: Progress) -> Progress
@@ -111,8 +117,8 @@ pub(crate) fn item(next: usize, got: usize, input: &[u8]) -> Item
     requires { ⌜ got ≤ length (now input) ⌝ }
     ensures { λ r. ⌜ r ≡ Spec.itemAt next got (now (input .entry)) ⌝ }
 {
-    let end = Item::End(got % 24);
-    if got / 24 <= next {
+    let end = Item::End(got % BOX_BYTES);
+    if got / BOX_BYTES <= next {
         return end;
     }
     let BoxAnswer::Read(r) = read_box(input, next) else {
@@ -136,15 +142,18 @@ fn behind(used: usize, n: usize, size: usize) -> usize
 fn later(next: usize, got: usize) -> usize
     ensures { λ r. ⌜ r ≡ Spec.later next got ⌝ }
 {
-    if next < got / 24 {
+    if next < got / BOX_BYTES {
         return next + 1;
     }
     next
 }
 
-fn known(p: Progress, feed: Feed, next: usize, used: usize, going: bool) -> Progress
-    ensures { λ r. ⌜ r ≡ Spec.known p feed next used going ⌝ }
+// n more bytes of text wait.
+fn known(p: Progress, feed: Feed, next: usize, n: usize, size: usize, going: bool) -> Progress
+    requires { ⌜ p .used ≤ size ⌝ }
+    ensures { λ r. ⌜ r ≡ Spec.known p feed next (min (p .used + n) size) going ⌝ }
 {
+    let used = behind(p.used, n, size);
     Progress {
         feed,
         left: p.left,
@@ -163,11 +172,10 @@ pub(crate) fn answered(p: Progress, size: usize, fed: Fed) -> Progress
     ensures { λ r. ⌜ r ≡ Spec.answered p size fed ⌝ }
 {
     let feed = p.feed;
-    let used = p.used;
     match fed {
-        Fed::Taken(then, n) => known(p, then, later(p.next, p.got), behind(used, n, size), true),
-        Fed::Again(then, n) => known(p, then, p.next, behind(used, n, size), true),
-        Fed::Ended(n) => known(p, feed, p.next, behind(used, n, size), false),
+        Fed::Taken(then, n) => known(p, then, later(p.next, p.got), n, size, true),
+        Fed::Again(then, n) => known(p, then, p.next, n, size, true),
+        Fed::Ended(n) => known(p, feed, p.next, n, size, false),
         Fed::Short => stopped(p),
     }
 }
@@ -178,16 +186,7 @@ pub(crate) fn needed(held: usize, boxes: usize) -> usize
 {
     let n = larger(held, boxes);
     if 64 < n {
-        return 4096;
+        return LENT_DOUBLES;
     }
     n * n
-}
-
-fn larger(a: usize, b: usize) -> usize
-    ensures { λ r. ⌜ r ≡ max a b ⌝ }
-{
-    if a < b {
-        return b;
-    }
-    a
 }

@@ -11,10 +11,22 @@ use crate::progress::needed;
 use crate::progress::refilled;
 use crate::progress::spent;
 use crate::progress::start;
+use records::BOX_BYTES;
+use trackbox_feed::LENT_BOXES;
+use trackbox_feed::LENT_COUNTERS;
+use trackbox_feed::LENT_DOUBLES;
+use trackbox_feed::LENT_FLOATS;
+use trackbox_feed::LENT_OUTPUT;
+use trackbox_feed::LENT_SINGLES;
 ghost use Prim.Native.Nat.{_≤_};
 ghost use lib.ListN.{length};
 ghost use Rattle.trackbox_io.specs.Turn as Spec;
 ghost use Rattle.trackbox_io.specs.Turn.{arrays};
+
+const TEXT_BYTES: usize = 65536;
+
+// Whole records, so that none lies across the end of the buffer.
+const INPUT_BYTES: usize = TEXT_BYTES / BOX_BYTES * BOX_BYTES;
 
 pub enum Ran {
     // The stream has ended or was turned down, and what it prints is written. So many of its bytes were not read.
@@ -155,16 +167,14 @@ fn end(p: Progress, bytes: u64, text: &[u8]) -> Ran
 pub fn run(bytes: u64) -> Ran
     ensures { λ r. ⌜ Spec.Leaves bytes r ⌝ }
 {
-    // whole records, so that none lies across the end of the buffer
-    let mut input = [0u8; 65520];
-    let mut text = [0u8; 65536];
-    // 64 tracks, 64 boxes
-    let mut floats = [0.0f32; 1536];
-    let mut counters = [0u64; 256];
-    let mut boxes = [0.0f32; 320];
-    let mut out = [0u8; 2048];
-    let mut work64 = [0.0f64; 4096];
-    let mut work32 = [0.0f32; 16384];
+    let mut input = [0u8; INPUT_BYTES];
+    let mut text = [0u8; TEXT_BYTES];
+    let mut floats = [0.0f32; LENT_FLOATS];
+    let mut counters = [0u64; LENT_COUNTERS];
+    let mut boxes = [0.0f32; LENT_BOXES];
+    let mut out = [0u8; LENT_OUTPUT];
+    let mut work64 = [0.0f64; LENT_DOUBLES];
+    let mut work32 = [0.0f32; LENT_SINGLES];
     let mut now = start(bytes);
     let mut turns = u64::MAX;
     while (0 < turns) & now.going {

@@ -1,8 +1,9 @@
--- Each return of `judge`, `close` and `hold` is the definition's case where the tests are as that return found them. Assumes nothing.
+-- Each return of `nth_after`, `judge`, `close` and `hold` is the definition's case where the tests are as that return found them. Assumes nothing.
 use mathlib.Core.Path.{_≡_, refl, ap, _∙_}
 use mathlib.Core.Bool.{true, _||_}
 use mathlib.Core.List.{List}
 use Prim.Native.Nat.{ℕ, _+_, _-_, _*_, _/_, _≤_, _<_}
+use native.Mathlib.Omega.{arith}
 use lib.Dec.{eqb, ltb}
 use lib.Ieee.{Float}
 use lib.ListN.{length}
@@ -17,7 +18,14 @@ use Rattle.trackbox_stream.specs.declared.rules.Next.the-variants as nex
 use Rattle.trackbox_stream.specs.declared.rules.Ending.the-variants as ending
 use Rattle.trackbox_stream.specs.Rules.{nthAfter, opened, grown, judged, closed}
 use Rattle.trackbox_stream.specs.Boxes.{boxFloats, heldThen}
-use Rattle.trackbox_stream.specs.Laws.Cases.{Ahead}
+use Rattle.trackbox_stream.proofs.Cases.{Ahead}
+
+-- the record behind n has the next number, up to the largest u64
+pub counted : (n : ℕ) → n < 18446744073709551615 → n + 1 ≡ nthAfter n
+counted n h = omega (arith, h)
+
+pub counted-out : (n : ℕ) → 18446744073709551615 ≤ n → 18446744073709551615 ≡ nthAfter n
+counted-out n h = omega (arith, h)
 
 module _ (state : OpenFrame) (n frame : ℕ) (e : n ≡ nthAfter (state .records)) where
   pub back : (eqb frame 0 || ltb frame (state .frame)) ≡ true → next.Refused FrameBack n ≡ judged state (nthAfter (state .records)) frame

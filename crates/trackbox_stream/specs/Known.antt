@@ -2,7 +2,7 @@
 use mathlib.Core.Path.{_≡_, refl}
 use mathlib.Core.Bool.{cond, false}
 use mathlib.Core.List.{List, [], _∷_, append-nil}
-use Prim.Native.Nat.{ℕ, _+_}
+use Prim.Native.Nat.{ℕ, _+_, _-_}
 use lib.Dec.{eqb}
 use lib.ListN.{length, replicate}
 use lib.Ieee.{nan}
@@ -11,6 +11,7 @@ use Rattle.laws.specs.Sieve.{sieve}
 use Rattle.laws.specs.Laid.{rows}
 use Rattle.records.specs.declared.box_record.BoxRecord.{BoxRecord}
 use Rattle.records.specs.Field.{value}
+use Rattle.records.specs.BoxRecord.{boxBytes}
 use Rattle.records.specs.Known.{loneTrack}
 use Rattle.records.specs.Line.{line, refusedLine}
 use Rattle.trackbox_stream.specs.Stream.{work, refuse, lastFrame, boxesOf, earlier, frameWork, frames, refusalOf, passing, done, events, boxRecords, Frame, refused, accepted, printedWith, prints, printing, trackbox}
@@ -33,7 +34,7 @@ pub back-known : events (box 1 ∷ box 2 ∷ box 1 ∷ box 7 ∷ []) 0 ≡ work 
 unfolding events done frames frameWork boxesOf earlier lastFrame passing refusalOf tab sieve
 back-known = refl
 
-pub incomplete-known : events (box 1 ∷ box 2 ∷ []) 23 ≡ work 1 (box 1 ∷ []) 1 ∷ refuse 41 3 ∷ []
+pub incomplete-known : events (box 1 ∷ box 2 ∷ []) (boxBytes - 1) ≡ work 1 (box 1 ∷ []) 1 ∷ refuse 41 3 ∷ []
 unfolding events done frames frameWork boxesOf earlier lastFrame passing refusalOf tab sieve
 incomplete-known = refl
 
@@ -52,7 +53,7 @@ unfolding trackbox printing prints boxRecords events done frames lastFrame passi
 text-known update state = (refl, refl)
 
 -- one record of frame 1, and a frame that emits one track
-pub line-known : {S : Type 0} (state : S) → trackbox (λ (s : S) (boxes : List BoxRecord). accepted s (loneTrack ∷ [])) state (1 ∷ replicate 23 0) ≡ line loneTrack
+pub line-known : {S : Type 0} (state : S) → trackbox (λ (s : S) (boxes : List BoxRecord). accepted s (loneTrack ∷ [])) state (1 ∷ replicate (boxBytes - 1) 0) ≡ line loneTrack
 unfolding trackbox printing prints boxRecords events done frames frameWork boxesOf earlier lastFrame passing refusalOf tab sieve rows value
 line-known state = append-nil (line loneTrack)
 

@@ -1,5 +1,7 @@
 -- Facts that several proofs of this crate cite.
-pub mod Parts
 pub mod Patterns
 pub mod Digesting
 pub mod Drawing
+pub mod Parts
+pub mod Printing
+pub mod Reading

@@ -1,12 +1,7 @@
--- Floats of whole numbers and of bit patterns, and the words that stand for floats in a digest: docs/ORACLE.md, "The pairing" and "Numbers".
+-- Floats of bit patterns, and the words that stand for floats in a digest: docs/ORACLE.md, "The pairing".
 use mathlib.Core.Bool.{cond}
-use Prim.Native.Nat.{ℕ, _%_, _^_}
-use lib.IntN.{pos}
-use lib.Ieee.{Float, binary32, binary64, ofInt, ofBits, toBits, eq}
-
--- the float of a number below 2^24, which is exact
-abbrev pub real : ℕ → Float
-real p = ofInt binary32 (pos (p % 2 ^ 24))
+use Prim.Native.Nat.{ℕ}
+use lib.Ieee.{Float, binary32, binary64, ofBits, toBits, eq}
 
 -- the f32 of a bit pattern, and the bit pattern of an f32: that of the one NaN is 7fc00000
 abbrev pub float : ℕ → Float

@@ -1,4 +1,4 @@
--- Random numbers of 64 bits: docs/ORACLE.md, "The pairing" and "Numbers".
+-- Random numbers of 64 bits: docs/ORACLE.md, "The pairing".
 use Prim.Native.Nat.{ℕ, _*_, _/_, _%_, _^_}
 use lib.Bits.{bitXor}
 
@@ -12,7 +12,3 @@ withRight k r = bitXor r (r / 2 ^ k)
 -- one step of a xorshift generator
 unfoldable pub next : ℕ → ℕ
 next r = withLeft 17 (withRight 7 (withLeft 13 r))
-
--- bits 16 k to 16 k + 15 of r
-unfoldable pub part : ℕ → ℕ → ℕ
-part r k = r / 2 ^ (16 * k) % 2 ^ 16

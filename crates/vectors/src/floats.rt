@@ -1,14 +1,7 @@
-// Floats of whole numbers and of bit patterns, and the words that stand for floats.
+// Floats of bit patterns, and the words that stand for floats.
 ghost use mathlib.Core.Path.{_≡_};
 ghost use Prim.Native.Nat.{_%_};
 ghost use Rattle.vectors.specs.Floats as Floats;
-
-// The float of a number below 2^24.
-pub fn real(p: u64) -> f32
-    ensures { λ x. ⌜ x ≡ Floats.real p ⌝ }
-{
-    std::num::nearest_u32_to_f32((p % 16777216) as u32)
-}
 
 // The f32 of a pattern, and one NaN for every pattern that is a NaN.
 pub fn float_of(bits: u32) -> f32

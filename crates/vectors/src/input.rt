@@ -1,7 +1,9 @@
 // Words of standard input: numbers of four bytes, the lowest first, which also stand for the bits of floats. Behind
 // the end of the input every word is 0.
 ghost use mathlib.Core.Path.{_≡_};
-ghost use Rattle.vectors.specs.Words.{wordOf};
+ghost use Prim.Native.Nat.{_≤_, _<_};
+ghost use lib.Ieee.{nan};
+ghost use Rattle.vectors.specs.Words.{wordOf, RestIs};
 use crate::floats::float_of;
 
 // The number of four bytes.
@@ -12,7 +14,9 @@ fn word_of(a: u8, b: u8, c: u8, d: u8) -> u32
 }
 
 // The next word; `end` where the input ends before it.
-pub fn word_or(end: u32) -> u32 {
+pub fn word_or(end: u32) -> u32
+    ensures { λ r. ⌜ r < 4294967296 ⌝ }
+{
     let mut b = [0u8; 4];
     if io::read_full(0, &mut b) < 4 {
         return end;
@@ -20,45 +24,47 @@ pub fn word_or(end: u32) -> u32 {
     word_of(b[0], b[1], b[2], b[3])
 }
 
-// A float, where it is one that is given.
-fn float_or(given: bool, rest: f32) -> f32 {
-    if given {
+// The next float, if number k is one of those that are given.
+fn float_or(k: usize, given: usize, rest: f32) -> f32
+    ensures { λ r. ⌜ (given ≤ k → r ≡ rest) ⌝ }
+{
+    if k < given {
         return float_of(word_or(0));
     }
     rest
 }
 
-fn number_or(given: bool, rest: u64) -> u64 {
-    if given {
-        return word_or(0) as u64;
+fn count_or(k: usize, given: usize, rest: u32) -> u32
+    ensures { λ r. ⌜ (given ≤ k → r ≡ rest) ⌝ }
+{
+    if k < given {
+        return word_or(0);
     }
     rest
 }
 
-// Fills a slice with the next `given` floats, and what is left of it with `rest`.
-pub fn floats(given: usize, rest: f32, out: &mut [f32]) {
+// ---- the next words fill the front of a slice, `given` of them, and `rest` what is left of it
+
+pub fn floats(given: usize, rest: f32, out: &mut [f32])
+    ensures { λ _. ⌜ RestIs nan rest given (now (out .exit)) ⌝ }
+{
     for k in 0..out.len() {
-        out[k] = float_or(k < given, rest);
+        out[k] = float_or(k, given, rest);
     }
 }
 
-// Fills a slice with the next `given` words, and what is left of it with `rest`.
-pub fn numbers(given: usize, rest: u64, out: &mut [u64]) {
+pub fn words(given: usize, rest: u32, out: &mut [u64])
+    ensures { λ _. ⌜ RestIs 0 rest given (now (out .exit)) ⌝ }
+{
     for k in 0..out.len() {
-        out[k] = number_or(k < given, rest);
+        out[k] = count_or(k, given, rest) as u64;
     }
 }
 
-// Fills a slice with the next words.
-pub fn words(out: &mut [u32]) {
+pub fn counts(given: usize, rest: u32, out: &mut [u32])
+    ensures { λ _. ⌜ RestIs 0 rest given (now (out .exit)) ⌝ }
+{
     for k in 0..out.len() {
-        out[k] = word_or(0);
+        out[k] = count_or(k, given, rest);
     }
-}
-
-// Reads a title of 40 bytes, and prints it.
-pub fn title() {
-    let mut name = [b' '; 40];
-    io::read_full(0, &mut name);
-    io::write_all(1, &name);
 }

@@ -5,6 +5,7 @@ pub mod digest;
 pub mod floats;
 pub mod held;
 pub mod input;
+pub mod lent;
+pub mod line;
 pub mod part;
 pub mod random;
-pub mod text;

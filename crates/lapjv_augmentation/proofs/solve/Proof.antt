@@ -7,17 +7,26 @@ use Rattle.lapjv_augmentation.proofs.solve.Statement.{statement}
 use Rattle.lapjv_augmentation.proofs.solve.Tie as tie
 
 -- The places that the answers go back to.
+abbrev after-slice-known6 : tie.After-reduction → tie.After-slice-known6
+after-slice-known6 c = c .before .before .before .before .before .before
+
 abbrev start : tie.After-reduction → tie.Start
-start c = c .before .before .before .before .before .before .before .before .before .before .before .before .before
+start c = after-slice-known6 c .before .before .before .before .before .before .before
+
+abbrev after-v : tie.After-ca-dense-arg7 → tie.After-v
+after-v c = c .before .before .before .before .before .before .before .before
 
 abbrev after-reduction·ca-dense-requires : tie.After-ca-dense-arg7 → tie.After-reduction
-after-reduction·ca-dense-requires c = c .before .before .before .before .before .before .before .before .before .before .before .before .before .before .before
+after-reduction·ca-dense-requires c = after-v c .before .before .before .before .before .before .before
 
 abbrev after-reduction : tie.After-ca-dense → tie.After-reduction
 after-reduction c = after-reduction·ca-dense-requires (c .before)
 
+abbrev after-pred : tie.After-slice-known17 → tie.After-pred
+after-pred c = c .before .before .before .before .before
+
 abbrev after-ca-dense : tie.After-slice-known17 → tie.After-ca-dense
-after-ca-dense c = c .before .before .before .before .before .before .before .before .before .before .before .before
+after-ca-dense c = after-pred c .before .before .before .before .before .before .before
 
 abbrev after-reduction·returns : tie.After-slice-known17 → tie.After-reduction
 after-reduction·returns c = after-reduction (after-ca-dense c)

@@ -6,26 +6,38 @@ use Rattle.lapjv_reduction.proofs.reduce.Statement.{statement}
 use Rattle.lapjv_reduction.proofs.reduce.Tie as tie
 
 -- The places that the answers go back to.
+abbrev after-slice-known5 : tie.After-ccrt-dense-arg5 → tie.After-slice-known5
+after-slice-known5 c = c .before .before .before .before .before
+
 abbrev start·ccrt-dense-requires : tie.After-ccrt-dense-arg5 → tie.Start
-start·ccrt-dense-requires c = c .before .before .before .before .before .before .before .before .before .before .before
+start·ccrt-dense-requires c = after-slice-known5 c .before .before .before .before .before .before
 
 abbrev start : tie.After-ccrt-dense → tie.Start
 start c = start·ccrt-dense-requires (c .before)
 
+abbrev after-v : tie.After-carr-dence-arg4 → tie.After-v
+after-v c = c .before .before .before .before .before .before .before
+
 abbrev after-ccrt-dense·carr-dence-requires : tie.After-carr-dence-arg4 → tie.After-ccrt-dense
-after-ccrt-dense·carr-dence-requires c = c .before .before .before .before .before .before .before .before .before .before .before .before .before .before
+after-ccrt-dense·carr-dence-requires c = after-v c .before .before .before .before .before .before .before
 
 abbrev after-ccrt-dense : tie.After-carr-dence → tie.After-ccrt-dense
 after-ccrt-dense c = after-ccrt-dense·carr-dence-requires (c .before)
 
+abbrev after-v2 : tie.After-carr-dence-arg8 → tie.After-v2
+after-v2 c = c .before .before .before .before .before
+
 abbrev after-carr-dence·carr-dence-requires-2 : tie.After-carr-dence-arg8 → tie.After-carr-dence
-after-carr-dence·carr-dence-requires-2 c = c .before .before .before .before .before .before .before .before .before .before .before .before
+after-carr-dence·carr-dence-requires-2 c = after-v2 c .before .before .before .before .before .before .before
 
 abbrev after-carr-dence : tie.After-carr-dence2 → tie.After-carr-dence
 after-carr-dence c = after-carr-dence·carr-dence-requires-2 (c .before)
 
+abbrev after-y3 : tie.After-struct-known2 → tie.After-y3
+after-y3 c = c .before .before .before .before .before
+
 abbrev after-carr-dence2 : tie.After-struct-known2 → tie.After-carr-dence2
-after-carr-dence2 c = c .before .before .before .before .before .before .before .before .before .before
+after-carr-dence2 c = after-y3 c .before .before .before .before .before
 
 abbrev after-ccrt-dense·returns : tie.After-struct-known2 → tie.After-ccrt-dense
 after-ccrt-dense·returns c = after-ccrt-dense (after-carr-dence (after-carr-dence2 c))

@@ -1,6 +1,6 @@
 -- `lapjv_vectors::every_kind` meets its contract. The loop's invariant: `kind` is at most 17, and the slices have the
 -- lengths that they came with. The measure is the number of kinds left. Assumes nothing.
-use mathlib.Core.Path.{_≡_, _∙_}
+use mathlib.Core.Path.{_≡_}
 use Prim.Native.Nat.{_≤_, _-_}
 use native.Mathlib.Omega.{arith}
 use lib.ListN.{length}

@@ -11,7 +11,7 @@ use lib.Ieee.{Float, nan, inf, fin, binary32, fits, isNan, nanBits, toBits}
 use lib.Ieee.Bits.{ofBits-toBits, toBits-ofBits, toBits-lt, nanBits-is}
 use lib.ListN.{length, getD, take, drop, length-take, length-drop, List·getD-eq-default}
 use lib.Seq.{length-take-le, getD-take, getD-drop, take-add, drop-drop}
-use Rattle.records.specs.Field.{le, value, bits, float, part, floatAt}
+use Rattle.records.specs.Field.{littleEndian, value, bits, float, part, floatAt}
 use Rattle.records.specs.Laws.Digits.{quotient-below}
 
 -- each element is a byte; past the end `getD` gives 0
@@ -20,13 +20,13 @@ AreBytes l = (i : ℕ) → getD l i 0 < 256
 
 -- ---- numbers
 
-pub value-le : (k n : ℕ) → n < 256 ^ k → value (le k n) ≡ n
-unfolding le value
+pub value-le : (k n : ℕ) → n < 256 ^ k → value (littleEndian k n) ≡ n
+unfolding littleEndian value
 value-le zero n h = omega arith
 value-le (suc k) n h = let r = value-le k (n / 256) (quotient-below 256 k n (lit< tt) h) in omega arith
 
-pub le-value : (l : List ℕ) → AreBytes l → le (length l) (value l) ≡ l
-unfolding le value
+pub le-value : (l : List ℕ) → AreBytes l → littleEndian (length l) (value l) ≡ l
+unfolding littleEndian value
 le-value [] h = refl
 le-value (b ∷ l) h =
     let small : b < 256 = h 0 in
@@ -58,8 +58,8 @@ part-long at k l h = length-take-le k (drop at l) (rw length-drop (omega arith))
 pub rejoin : (l : List ℕ) (at k m : ℕ) → part at k l ++ part (at + k) m l ≡ part at (k + m) l
 rejoin l at k m = sym (take-add k m (drop at l) ∙ rw drop-drop)
 
-pub le-part : (at k : ℕ) (l : List ℕ) → AreBytes l → at + k ≤ length l → le k (value (part at k l)) ≡ part at k l
-le-part at k l h n = let e = part-long at k l n in ap (λ (j : ℕ). le j (value (part at k l))) (sym e) ∙ le-value (part at k l) (part-bytes at k l h)
+pub le-part : (at k : ℕ) (l : List ℕ) → AreBytes l → at + k ≤ length l → littleEndian k (value (part at k l)) ≡ part at k l
+le-part at k l h n = let e = part-long at k l n in ap (λ (j : ℕ). littleEndian j (value (part at k l))) (sym e) ∙ le-value (part at k l) (part-bytes at k l h)
 
 -- ---- floats
 
@@ -69,19 +69,19 @@ is-nan nan e = refl
 is-nan (inf s) e = absurd (true≢false (sym e))
 is-nan (fin s m k) e = absurd (true≢false (sym e))
 
-pub float-le : (x : Float) → T (fits binary32 x) → float (value (le 4 (bits x))) ≡ x
+pub float-le : (x : Float) → T (fits binary32 x) → float (value (littleEndian 4 (bits x))) ≡ x
 float-le x h = ap float (value-le 4 (bits x) (toBits-lt binary32 x h)) ∙ ofBits-toBits binary32 x h
 
 -- four bytes that are read as an f32 and written again: those of the one NaN where they are a pattern of a NaN, and otherwise the same
 abbrev pub settled : List ℕ → List ℕ
 settled b = cond (nanBits binary32 (value b)) (0 ∷ 0 ∷ 0xc0 ∷ 0x7f ∷ []) b
 
-settle : (n : ℕ) (b : List ℕ) → n < 2 ^ 32 → le 4 n ≡ b → (t : Bool) → nanBits binary32 n ≡ t → le 4 (bits (float n)) ≡ cond t (0 ∷ 0 ∷ 0xc0 ∷ 0x7f ∷ []) b
-unfolding le toBits
-settle n b h e true t = ap (λ (x : Float). le 4 (bits x)) (sym (is-nan (float n) (sym (nanBits-is binary32 n) ∙ t)))
-settle n b h e false t = ap (le 4) (toBits-ofBits binary32 n h (subst (λ (s : Bool). T (not s)) (sym (sym (nanBits-is binary32 n) ∙ t)) tt)) ∙ e
+settle : (n : ℕ) (b : List ℕ) → n < 2 ^ 32 → littleEndian 4 n ≡ b → (t : Bool) → nanBits binary32 n ≡ t → littleEndian 4 (bits (float n)) ≡ cond t (0 ∷ 0 ∷ 0xc0 ∷ 0x7f ∷ []) b
+unfolding littleEndian toBits
+settle n b h e true t = ap (λ (x : Float). littleEndian 4 (bits x)) (sym (is-nan (float n) (sym (nanBits-is binary32 n) ∙ t)))
+settle n b h e false t = ap (littleEndian 4) (toBits-ofBits binary32 n h (subst (λ (s : Bool). T (not s)) (sym (sym (nanBits-is binary32 n) ∙ t)) tt)) ∙ e
 
-pub settled-part : (at : ℕ) (l : List ℕ) → AreBytes l → at + 4 ≤ length l → le 4 (bits (floatAt at l)) ≡ settled (part at 4 l)
+pub settled-part : (at : ℕ) (l : List ℕ) → AreBytes l → at + 4 ≤ length l → littleEndian 4 (bits (floatAt at l)) ≡ settled (part at 4 l)
 settled-part at l h n =
     let b = part at 4 l in
     let e = part-long at 4 l n in

@@ -8,14 +8,14 @@ use lib.Ieee.{Float}
 use lib.ListN.{length, length-append}
 use Rattle.records.specs.declared.box_record.BoxRecord.{BoxRecord}
 use Rattle.records.specs.declared.track_record.TrackRecord.{TrackRecord}
-use Rattle.records.specs.Field.{le, bits}
+use Rattle.records.specs.Field.{littleEndian, bits}
 use Rattle.records.specs.Text.{glyph, digits, places, decimal, hex, ended}
 use Rattle.records.specs.BoxRecord.{boxBytes, bytesOfBox}
 use Rattle.records.specs.TrackRecord.{trackBytes, bytesOfTrack}
 use Rattle.records.specs.Line.{line, refusedLine}
 
-pub length-le : (k n : ℕ) → length (le k n) ≡ k
-unfolding le
+pub length-le : (k n : ℕ) → length (littleEndian k n) ≡ k
+unfolding littleEndian
 length-le zero n = refl
 length-le (suc k) n = ap suc (length-le k (n / 256))
 

@@ -1,7 +1,7 @@
 -- `association::associate_verdict` meets its contract: each return is the verdict where the tests are as that return found them. Assumes nothing.
 use mathlib.Core.Path.{_∙_}
 use Rattle.laws.specs.Sides.{sides-fit}
-use Rattle.assoc_similarity.proofs.Laws.{few-sides}
+use Rattle.refusals.proofs.Laws.{few-sides}
 use Rattle.assoc.specs.Answers.{associateVerdict}
 use Rattle.assoc.proofs.AssociationLaws.{associate-rest}
 use Rattle.assoc.proofs.association.associate_verdict.Statement.{statement}
@@ -19,7 +19,7 @@ unfolding associateVerdict
 returns-2 c = rw (c .before .before .if1 .left, c .if2 .taken)
 
 returns-3 : tie.Need-returns-3
-returns-3 c = c .within-verdict .ensures ∙ associate-rest _ _ _ _ _ _ _ _ _ _ _ _ _ _ (c .before .before .before .if1 .left) (c .before .if2 .left)
+returns-3 c = c .within-verdict .ensures ∙ associate-rest _ _ _ _ _ _ _ _ _ _ _ (c .before .before .before .if1 .left) (c .before .if2 .left)
 
 pub associate-verdict-spec : {M : Type 1} → statement M
 associate-verdict-spec = tie.close (tie.spec returns mul-if2 returns-2 (λ c κs. tt) returns-3)

@@ -4,9 +4,9 @@ use native.Mathlib.Nat.{mul-le-mul}
 use native.Mathlib.Omega.{arith}
 use borrow.Author.Tests.{lt-ltb, le-ltb}
 use Rattle.laws.specs.Sides.{sides-fit}
-use Rattle.assoc_similarity.proofs.Laws.{few-sides}
+use Rattle.refusals.proofs.Laws.{few-sides}
 use Rattle.assoc.specs.Answers.{withinVerdict}
-use Rattle.assoc_matching.specs.Laws.{side-low}
+use Rattle.assoc_matching.proofs.AnswerLaws.{side-low}
 use Rattle.assoc.proofs.AssociationLaws.{within-rest}
 use Rattle.assoc.proofs.association.within_verdict.Statement.{statement}
 use Rattle.assoc.proofs.association.within_verdict.Tie as tie
@@ -32,10 +32,14 @@ returns-3 c = rw (c .before .before .before .before .if1 .left, sym (c .before .
 mul-cells : tie.Need-mul-cells
 mul-cells c = let low = few-sides _ _ (c .before .before .before .before .if1 .left) in record { fits = sides-fit (low .0) (low .1) }
 
+-- The places that the answers go back to.
+abbrev else1 : tie.After-assignment-verdict → tie.Else1
+else1 c = c .before .before .before .before .before
+
 returns-4 : tie.Need-returns-4
 returns-4 c =
     c .assignment-verdict .ensures
-    ∙ within-rest _ _ _ _ _ _ _ _ _ _ _ _ _ (c .before .before .before .before .before .if1 .left) (sym (c .before .before .before .before .other-size .ensures) ∙ c .before .before .before .if2 .left) (le-ltb _ _ (rw (c .before .before .larger .ensures) at (c .before .if3 .left)))
+    ∙ within-rest _ _ _ _ _ _ _ _ _ _ (else1 c .if1 .left) (sym (c .before .before .before .before .other-size .ensures) ∙ c .before .before .before .if2 .left) (le-ltb _ _ (rw (c .before .before .larger .ensures) at (c .before .if3 .left)))
 
 pub within-verdict-spec : {M : Type 1} → statement M
 within-verdict-spec =

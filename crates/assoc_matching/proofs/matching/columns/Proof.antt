@@ -5,7 +5,7 @@ use native.Mathlib.Nat.{le-refl}
 use native.Mathlib.Omega.{arith}
 use lib.ListN.{length, getD}
 use Rattle.laws.specs.Tab.{Filling, fill-start, fill-on, fill-whole}
-use Rattle.assoc_matching.specs.PrivateMatching.{column}
+use Rattle.assoc_matching.specs.Partners.{column}
 use Rattle.assoc_matching.proofs.matching.columns.Statement.{statement}
 use Rattle.assoc_matching.proofs.matching.columns.Tie as tie
 
@@ -18,9 +18,13 @@ abbrev μ-loop : tie.MeasureT-loop
 loop-holds : tie.Need-loop-holds Inv-loop μ-loop
 loop-holds c = fill-start _ _ _
 
+-- The places that the answers go back to.
+abbrev start : tie.After-shared-slice-known2 Inv-loop μ-loop → tie.Start Inv-loop μ-loop
+start c = c .before .before .before .before .before
+
 column-of-requires : tie.Need-column-of-requires Inv-loop μ-loop
 column-of-requires c κs =
-    let start = c .before .before .before .before .before in
+    let start = start c in
     start .pre .1
 
 loop-again : tie.Need-loop-again Inv-loop μ-loop

@@ -33,10 +33,14 @@ shared-slice-read-f32-to-f64-with-nan c =
     let start = c .before .before .before .before in
     let a = start .args in omega (arith, row-ends (a .nrows) (a .ncols) (a .i) (c .before .before .if1 .left), c .before .if2 .left, start .pre .0 .long)
 
+-- The places that the answers go back to.
+abbrev start : tie.After-row-known → tie.Start
+start c = c .before .before .before .before .before .before
+
 int-to-float-result : tie.Need-int-to-float-result
 unfolding inFloat
 int-to-float-result c =
-    let start = c .before .before .before .before .before .before in
+    let start = start c in
     le→leb _ _ (le-trans (start .pre .1) (lit≤ tt))
 
 returns-3 : tie.Need-returns-3

@@ -19,19 +19,29 @@ abbrev μ-loop : tie.MeasureT-loop
 loop-holds : tie.Need-loop-holds Inv-loop μ-loop
 loop-holds c = rows-start (le-of-eq (sym (c .before .before .pre .1 .long)))
 
+-- The places that the answers go back to.
+abbrev start·cost-row-requires : tie.After-cost-row-arg Inv-loop μ-loop → tie.Start Inv-loop μ-loop
+start·cost-row-requires c = c .before .before .before .before .before
+
+abbrev at-loop : tie.After-slice-known2 Inv-loop μ-loop → tie.At-loop Inv-loop μ-loop
+at-loop c = c .before .before .before .before .before
+
+abbrev start : tie.After-slice-known2 Inv-loop μ-loop → tie.Start Inv-loop μ-loop
+start c = at-loop c .before .before .before
+
 cost-row-requires : tie.Need-cost-row-requires Inv-loop μ-loop
 cost-row-requires c κs =
-    let start = c .before .before .before .before .before in
+    let start = start·cost-row-requires c in
     (start .pre .0, omega (arith, c .before .loop-test .taken, start .pre .1 .few-rows))
 
 add-i : tie.Need-add-i Inv-loop μ-loop
 add-i c =
-    let start = c .before .before .before .before .before .before .before .before in
+    let start = start c in
     omega (arith, c .before .before .before .before .loop-test .taken, start .pre .1 .few-rows)
 
 loop-again : tie.Need-loop-again Inv-loop μ-loop
 loop-again c =
-    let w = c .before .before .before .before .before .loop .inv in
+    let w = at-loop c .loop .inv in
     let h = c .before .before .before .before .loop-test .taken in
     rows-on w h (λ k. length-tab _ _) (c .before .before .cost-row .ensures ∙ ap (tab _) (row-part w h))
 
@@ -51,7 +61,7 @@ cost-square-spec =
     (λ c. omega (arith, row-room (c .before .loop .inv) (c .loop-test .taken)))
     (λ c. omega (arith, row-room (c .before .loop .inv) (c .loop-test .taken)))
     cost-row-requires
-    (λ c. omega (arith, row-room (c .before .before .before .before .before .loop .inv) (c .before .before .before .before .loop-test .taken)))
+    (λ c. omega (arith, row-room (at-loop c .loop .inv) (c .before .before .before .before .loop-test .taken)))
     add-i
     (λ c. omega (arith, c .before .before .before .before .loop-test .taken))
     loop-again

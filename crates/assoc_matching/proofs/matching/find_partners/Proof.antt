@@ -1,51 +1,51 @@
--- `matching::find_partners` meets its contract. Where the direct path is not taken there is a square to solve. Assumes nothing.
-use mathlib.Core.Path.{sym, _∙_}
-use lib.Seq.{length-take-le}
+-- `matching::find_partners` meets its contract: a refused call changes nothing, and an accepted one leaves the work slice zero. Assumes nothing.
+use mathlib.Core.Path.{sym, ap, _∙_}
+use lib.Ieee.{binary64, ofBits}
 use borrow.Author.Needs.{needs}
-use Rattle.laws.specs.Sides.{sides-fit}
-use Rattle.assoc_matching.proofs.SquareLaws.{side-few}
-use Rattle.assoc_matching.proofs.PartnerLaws.{partnered-direct, partnered-solved, whole-is, cells-in}
+use denote.Ref.{now}
+use Rattle.laws.specs.Tab.{tab}
+use Rattle.assoc_matching.specs.Answers.{partnerLentWith}
+use Rattle.assoc_matching.proofs.AnswerLaws.{partner-ready}
+use Rattle.assoc_matching.proofs.EndLaws.{partner-refused, partner-found}
 use Rattle.assoc_matching.proofs.matching.find_partners.Statement.{statement}
 use Rattle.assoc_matching.proofs.matching.find_partners.Tie as tie
 
-direct-requires : tie.Need-direct-requires
-direct-requires c κs =
-    let start = c .before .before .before .before in
-    (start .pre .0, start .pre .1 .1)
-
 returns : tie.Need-returns
-returns c = partnered-direct _ _ _ _ (c .before .before .before .direct .ensures) (c .if1 .taken)
+returns c = partner-refused _ _ _ _ _ (c .before .before .before .partner-verdict .ensures) (c .before .verdict .given .1)
 
-mul-cells : tie.Need-mul-cells
-mul-cells c =
-    let start = c .before .before .before .before .before .before .before .before .before in
-    let few = side-few (start .pre .0) (c .larger .ensures) in record { fits = sides-fit few few }
+pair-rows-requires : tie.Need-pair-rows-requires
+pair-rows-requires c κs =
+    let ready = partner-ready _ _ _ _ _ (sym (c .before .before .before .before .partner-verdict .ensures) ∙ c .before .before .enum-told .given .1) in
+    (ready .sides, (ready .room-work, ready .rows))
 
-slice-relend-prefix-solve : tie.Need-slice-relend-prefix-solve
-slice-relend-prefix-solve c = let start = c .before .before .before .before .before .before .before .before .before in cells-in (start .args .nrows) (start .args .ncols) (c .larger .ensures) (start .pre .1 .0)
+-- The places that the answers go back to.
+abbrev after-pair-rows : tie.After-slice-known5 → tie.After-pair-rows
+after-pair-rows c = c .before .before .before .before .before .before .before .before
 
-slice-aggregate-solve : tie.Need-slice-aggregate-solve
-slice-aggregate-solve c = let start = c .before .before .before .before .before .before .before .before .before .before in sym (length-take-le _ _ (cells-in (start .args .nrows) (start .args .ncols) (c .before .larger .ensures) (start .pre .1 .0)))
+abbrev after-partner-verdict : tie.After-slice-known5 → tie.After-partner-verdict
+after-partner-verdict c = after-pair-rows c .before .before .before .before .before
 
-solve-requires : tie.Need-solve-requires
-solve-requires c κs = let start = c .before .before .before .before .before .before .before .before .before .before .before in let side = c .before .before .larger .ensures in
-    (start .pre .0, (whole-is _ _ _ _ (c .before .before .before .before .before .before .direct .ensures) (c .before .before .before .if1 .left) side (length-take-le _ _ (cells-in (start .args .nrows) (start .args .ncols) side (start .pre .1 .0))), c .before .before .before .before .before .before .direct .kept .1 .1 .1 .1 .0 ∙ start .pre .1 .1))
+abbrev start : tie.After-slice-known5 → tie.Start
+start c = after-partner-verdict c .before .before .before .before
 
 returns-2 : tie.Need-returns-2
-returns-2 c = partnered-solved _ _ _ _ (c .before .before .before .before .before .before .before .before .before .before .before .direct .ensures) (c .before .before .before .before .before .before .before .before .if1 .left) (c .before .before .before .before .solve .ensures)
+returns-2 c =
+    let a = start c .args in
+    let verdict = after-partner-verdict c .partner-verdict .ensures in
+    let accepted = after-pair-rows c .before .before .before .enum-told .given .1 in
+    let pair-rows = after-pair-rows c .pair-rows in
+    let cleared = c .before .before .clear .ensures ∙ ap (tab (λ i. ofBits binary64 0)) (pair-rows .kept .1 .1 .1 .1 .0) in
+    partner-found _ _ _ _ (partnerLentWith (now (a .partner)) (now (a .work))) (sym verdict ∙ accepted) (pair-rows .ensures) cleared
 
 pub find-partners-spec : {M : Type 1} → statement M
 find-partners-spec =
     tie.close
     (tie.spec
-    direct-requires
-    (λ c. search needs)
+    (λ c κs. tt) (λ c. search needs)
     returns
+    (λ c. search needs)
+    pair-rows-requires
     (λ c κs. tt)
-    mul-cells
-    slice-relend-prefix-solve
-    slice-aggregate-solve
-    solve-requires
-    (λ c. search needs)
-    (λ c. search needs)
+    (λ c. after-pair-rows c .pair-rows .kept .1 .1 .1 .1 .1 .0)
+    (λ c. c .before .before .clear .kept .0 ∙ after-pair-rows c .pair-rows .kept .1 .1 .1 .1 .0)
     returns-2)

@@ -16,21 +16,37 @@ abbrev μ-loop : tie.MeasureT-loop
 loop-holds : tie.Need-loop-holds Inv-loop μ-loop
 loop-holds c = sum-start _ _ _
 
+-- The places that the answers go back to.
+abbrev start·one-more-requires : tie.After-shared-slice-known2 Inv-loop μ-loop → tie.Start Inv-loop μ-loop
+start·one-more-requires c = c .before .before .before .before .before
+
+abbrev at-loop : tie.After-slice-known2 Inv-loop μ-loop → tie.At-loop Inv-loop μ-loop
+at-loop c = c .before .before .before .before .before
+
+abbrev start·one-more-requires-2 : tie.After-slice-known2 Inv-loop μ-loop → tie.Start Inv-loop μ-loop
+start·one-more-requires-2 c = at-loop c .before .before .before
+
+abbrev in-loop : tie.After-one-more2 Inv-loop μ-loop → tie.In-loop Inv-loop μ-loop
+in-loop c = c .before .before .before .before .before
+
+abbrev start : tie.After-one-more2 Inv-loop μ-loop → tie.Start Inv-loop μ-loop
+start c = start·one-more-requires-2 (c .before)
+
 one-more-requires : tie.Need-one-more-requires Inv-loop μ-loop
 one-more-requires c κs =
-    let start = c .before .before .before .before .before in
+    let start = start·one-more-requires c in
     sum-few _ _ _ (c .before .before .loop .inv) (c .before .loop-test .taken) (start .pre .few)
 
 one-more-requires-2 : tie.Need-one-more-requires-2 Inv-loop μ-loop
 one-more-requires-2 c κs =
-    let start = c .before .before .before .before .before .before .before .before in
-    let loop = c .before .before .before .before .before .loop in omega (arith, sum-same _ _ _ (loop .inv), start .pre .small (loop .j) (c .before .before .before .before .loop-test .taken))
+    let start = start·one-more-requires-2 c in
+    let loop = at-loop c .loop in omega (arith, sum-same _ _ _ (loop .inv), start .pre .small (loop .j) (c .before .before .before .before .loop-test .taken))
 
 loop-again : tie.Need-loop-again Inv-loop μ-loop
 unfolding above
 loop-again c =
-    let start = c .before .before .before .before .before .before .before .before .before in
-    sum-on _ _ _ (c .before .before .before .before .before .before .loop .inv) (c .before .before .before .before .before .loop-test .taken) (start .pre .same) (c .before .before .before .one-more .ensures) (c .before .before .later .ensures) (c .one-more2 .ensures)
+    let start = start c in
+    sum-on _ _ _ (in-loop c .before .loop .inv) (in-loop c .loop-test .taken) (start .pre .same) (c .before .before .before .one-more .ensures) (c .before .before .later .ensures) (c .one-more2 .ensures)
 
 same-length : tie.Need-same-length Inv-loop μ-loop
 same-length c = c .before .loop .inv .cols .same

@@ -6,13 +6,13 @@ use native.Mathlib.Nat.{le-refl}
 use native.Mathlib.Omega.{arith}
 use lib.ListN.{length, getD}
 use Rattle.laws.specs.Tab.{Filling, fill-start, fill-on, fill-whole}
-use Rattle.floats.specs.Single.{zero}
+use Rattle.floats.specs.Single.{plusZero}
 use Rattle.assoc_similarity.specs.Overlap.{boxAt, softBiou}
 use Rattle.assoc_similarity.proofs.batch.soft_biou_row.Statement.{statement}
 use Rattle.assoc_similarity.proofs.batch.soft_biou_row.Tie as tie
 
 abbrev Inv-loop : tie.InvT-loop
-Inv-loop det corners confidences cells₀ tracks j₀ cells j = Filling (λ k. softBiou det (boxAt corners k) (getD confidences k zero)) cells₀ (length cells₀) j cells
+Inv-loop det corners confidences cells₀ tracks j₀ cells j = Filling (λ k. softBiou det (boxAt corners k) (getD confidences k plusZero)) cells₀ (length cells₀) j cells
 
 abbrev μ-loop : tie.MeasureT-loop
 μ-loop det corners confidences cells₀ tracks j₀ cells j = length cells₀ - j

@@ -11,25 +11,30 @@ use Rattle.assoc_similarity.proofs.mahalanobis.mh_rows.Tie as tie
 
 column-sums-requires : tie.Need-column-sums-requires
 column-sums-requires c κs =
-    let start = c .before .before .before .before .before .before .before .before .before in
+    let exponents = c .before .before .before .before .before in
+    let start = exponents .before .before .before .before in
     let long : length (now (start .args .sums)) ≡ start .args .tracks = ap length (start .pre .1) ∙ length-tab _ _ in
-    rw (long, c .before .before .before .before .before .exp-rows .ensures, length-grid _ _ _ _ (start .pre .0)) (start .pre)
+    rw (long, exponents .exp-rows .ensures, length-grid _ _ _ _ (start .pre .0)) (start .pre)
 
 share-rows-requires : tie.Need-share-rows-requires
 share-rows-requires c κs =
-    let start = c .before .before .before .before .before .before .before .before .before .before .before .before .before .before in
+    let sums = c .before .before .before .before in
+    let exponents = sums .before .before .before .before .before .before in
+    let start = exponents .before .before .before .before in
     let long : length (now (start .args .sums)) ≡ start .args .tracks = ap length (start .pre .1) ∙ length-tab _ _ in
-    (rw (c .before .before .before .before .before .before .before .before .before .before .exp-rows .ensures, length-grid _ _ _ _ (start .pre .0)) (start .pre .0), ap length (c .before .before .before .before .column-sums .ensures) ∙ length-tab _ _ ∙ long)
+    (rw (exponents .exp-rows .ensures, length-grid _ _ _ _ (start .pre .0)) (start .pre .0), ap length (sums .column-sums .ensures) ∙ length-tab _ _ ∙ long)
 
 returns : tie.Need-returns
 returns c =
-    let start = c .before .before .before .before .before .before .before .before .before .before .before .before .before .before .before .before .before in
+    let sums = c .before .before .before .before .before .before .before in
+    let exponents = sums .before .before .before .before .before .before in
+    let start = exponents .before .before .before .before in
     let long : length (now (start .args .sums)) ≡ start .args .tracks = ap length (start .pre .1) ∙ length-tab _ _ in
     c .before .before .share-rows .ensures
     ∙ softmax (start .args .softmax-temp) (start .args .boxes) (start .args .tracks) (now (start .args .cells)) _ _ _
-    (c .before .before .before .before .before .before .before .before .before .before .before .before .before .exp-rows .ensures)
-    (c .before .before .before .before .before .before .before .before .before .exp .ensures)
-    (rw long at (c .before .before .before .before .before .before .before .column-sums .ensures))
+    (exponents .exp-rows .ensures)
+    (sums .before .before .exp .ensures)
+    (rw long at (sums .column-sums .ensures))
 
 pub mh-rows-spec : {M : Type 1} → statement M
 mh-rows-spec =

@@ -3,7 +3,7 @@ use mathlib.Core.Path.{sym, _∙_}
 use native.Mathlib.Omega.{arith}
 use borrow.Author.Tests.{lt-ltb, le-ltb}
 use Rattle.laws.specs.Sides.{sides-fit}
-use Rattle.assoc_similarity.proofs.Laws.{few-sides}
+use Rattle.refusals.proofs.Laws.{few-sides}
 use Rattle.assoc_similarity.proofs.sizes.of_corners.Statement.{statement}
 use Rattle.assoc_similarity.proofs.sizes.of_corners.Tie as tie
 

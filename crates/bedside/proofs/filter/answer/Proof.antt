@@ -1,7 +1,7 @@
 -- `bedside::filter::answer` meets its contract. Assumes nothing.
 use mathlib.Core.Path.{sym, ap}
-use Rattle.strack.specs.KalmanFilter.{pairAnswer}
-use Rattle.strack.specs.declared.kalman_filter.PairCorrection.{PairCorrection}
+use Rattle.strack_filter.specs.KalmanFilter.{pairAnswer}
+use Rattle.strack_filter.specs.declared.kalman_filter.PairCorrection.{PairCorrection}
 use Rattle.bedside.specs.Filter.{inC}
 use borrow.Author.Needs.{needs}
 use Rattle.bedside.proofs.filter.answer.Statement.{statement}

@@ -1,7 +1,7 @@
 -- `bedside::frame::of_update` meets its contract: number and index are those of the verdict. Assumes nothing.
 use mathlib.Core.Path.{ap, _∙_}
 use Prim.Native.Nat.{ℕ}
-use Rattle.boost_tracker_table.specs.Verdict.{answer}
+use Rattle.boost_tracker_verdict.specs.Verdict.{answer}
 use Rattle.boost_tracker.specs.declared.frame.UpdateAnswer.{UpdateAnswer}
 use Rattle.bedside.specs.declared.frame.Updated.{Updated}
 use borrow.Author.Needs.{needs}

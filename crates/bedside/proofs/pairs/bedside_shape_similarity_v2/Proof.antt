@@ -5,7 +5,7 @@ use Rattle.bedside.proofs.pairs.bedside_shape_similarity_v2.Statement.{
 use Rattle.bedside.proofs.pairs.bedside_shape_similarity_v2.Tie as tie
 
 returns : tie.Need-returns
-returns c = in-c _ _ _ _ _ _ _ _ (c .of-verdict .ensures) (c .before .before .before .shape-similarity-v2 .ensures .0) (c .before .before .before .shape-similarity-v2 .ensures .1)
+returns c = in-c _ _ _ _ _ _ _ _ (c .number .ensures) (c .before .before .before .shape-similarity-v2 .ensures .0) (c .before .before .before .shape-similarity-v2 .ensures .1)
 
 pub bedside-shape-similarity-v2-spec : {M : Type 1} → statement M
 bedside-shape-similarity-v2-spec = tie.close (tie.spec (λ c κs. search needs) (λ c κs. search needs) (λ c. search needs) returns)

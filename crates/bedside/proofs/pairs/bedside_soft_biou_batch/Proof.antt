@@ -5,7 +5,7 @@ use Rattle.bedside.proofs.pairs.bedside_soft_biou_batch.Statement.{stat
 use Rattle.bedside.proofs.pairs.bedside_soft_biou_batch.Tie as tie
 
 returns : tie.Need-returns
-returns c = in-c _ _ _ _ _ _ _ _ (c .of-verdict .ensures) (c .before .before .before .soft-biou-batch .ensures .0) (c .before .before .before .soft-biou-batch .ensures .1)
+returns c = in-c _ _ _ _ _ _ _ _ (c .number .ensures) (c .before .before .before .soft-biou-batch .ensures .0) (c .before .before .before .soft-biou-batch .ensures .1)
 
 pub bedside-soft-biou-batch-spec : {M : Type 1} → statement M
 bedside-soft-biou-batch-spec = tie.close (tie.spec (λ c κs. search needs) (λ c κs. search needs) (λ c. search needs) returns)

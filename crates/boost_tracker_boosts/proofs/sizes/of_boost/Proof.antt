@@ -3,7 +3,7 @@ use borrow.Author.Needs.{needs}
 use borrow.Author.Tests.{le-ltb, lt-ltb}
 use mathlib.Core.Path.{_∙_, sym}
 use Rattle.laws.specs.Sides.{sides-fit}
-use Rattle.assoc_similarity.proofs.Laws.{few-sides}
+use Rattle.refusals.proofs.Laws.{few-sides}
 use Rattle.boost_tracker_boosts.proofs.sizes.of_boost.Statement.{statement}
 use Rattle.boost_tracker_boosts.proofs.sizes.of_boost.Tie as tie
 

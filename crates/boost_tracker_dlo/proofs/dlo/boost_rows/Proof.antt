@@ -18,19 +18,32 @@ Inv-loop q detections trks confs mhd since scores₀ i₀ scores i = Filling (λ
 abbrev μ-loop : tie.MeasureT-loop
 μ-loop q detections trks confs mhd since scores₀ i₀ scores i = length scores₀ - i
 
+-- The places that the answers go back to.
+abbrev start·boosted-requires : tie.After-slice-known2 Inv-loop μ-loop → tie.Start Inv-loop μ-loop
+start·boosted-requires c = c .before .before .before .before .before .before .before .before .before
+
+abbrev start : tie.After-boosted Inv-loop μ-loop → tie.Start Inv-loop μ-loop
+start c = start·boosted-requires (c .before)
+
 boosted-requires : tie.Need-boosted-requires Inv-loop μ-loop
 boosted-requires c κs =
-    let start = c .before .before .before .before .before .before .before .before .before in
+    let start = start·boosted-requires c in
     let inv = c .before .before .loop .inv in
     let n = inv .same in
     let below : c .before .before .loop .i < length (now (start .args .scores)) = omega (arith, c .before .loop-test .taken) in
-    record { inside = omega (arith, start .pre .detections-fit); trks-fit = start .pre .trks-fit; confs-fit = start .pre .confs-fit; row-inside = omega (arith, row-ends (length (now (start .args .scores))) (length (now (start .args .since))) (c .before .before .loop .i) below, start .pre .room); few = start .pre .few }
+    record {
+      inside = omega (arith, start .pre .detections-fit);
+      trks-fit = start .pre .trks-fit;
+      confs-fit = start .pre .confs-fit;
+      row-inside = omega (arith, row-ends (length (now (start .args .scores))) (length (now (start .args .since))) (c .before .before .loop .i) below, start .pre .room);
+      few = start .pre .few;
+    }
 
 loop-again : tie.Need-loop-again Inv-loop μ-loop
 loop-again c =
     let inv = c .before .before .before .loop .inv in
     let n = inv .same in
-    let below : c .before .before .before .loop .i < length (now (c .before .before .before .before .before .before .before .before .before .before .args .scores)) = omega (arith, c .before .before .loop-test .taken) in
+    let below : c .before .before .before .loop .i < length (now (start c .args .scores)) = omega (arith, c .before .before .loop-test .taken) in
     fill-on _ _ _ inv below (le-refl _) (c .boosted .ensures ∙ rw (fill-ahead _ _ _ inv nan))
 
 returns : tie.Need-returns Inv-loop μ-loop

@@ -10,20 +10,36 @@ use Rattle.laws.specs.Tab.{length-tab}
 use Rattle.boost_tracker_dlo.proofs.dlo.boosted_in.Statement.{statement}
 use Rattle.boost_tracker_dlo.proofs.dlo.boosted_in.Tie as tie
 
+-- The places that the answers go back to.
+abbrev start·similarity-row-requires : tie.After-similarity-row-arg3 → tie.Start
+start·similarity-row-requires c = c .before .before .before .before .before .before .before .before .before .before
+
+abbrev after-similarity-row·row-score-requires : tie.After-row-score-arg → tie.After-similarity-row
+after-similarity-row·row-score-requires c = c .before .before .before .before .before
+
+abbrev start·row-score-requires : tie.After-row-score-arg → tie.Start
+start·row-score-requires c = start·similarity-row-requires (after-similarity-row·row-score-requires c .before)
+
+abbrev after-similarity-row : tie.After-row-score → tie.After-similarity-row
+after-similarity-row c = after-similarity-row·row-score-requires (c .before)
+
+abbrev start : tie.After-row-score → tie.Start
+start c = start·row-score-requires (c .before)
+
 similarity-row-requires : tie.Need-similarity-row-requires
 similarity-row-requires c κs =
-    let w = c .before .before .before .before .before .before .before .before .before .before .args in
-    let p = c .before .before .before .before .before .before .before .before .before .before .pre in
+    let w = start·similarity-row-requires c .args in
+    let p = start·similarity-row-requires c .pre in
     rw (p .1 .1) (record { four = part-four (now (w .detections)) (w .i) (p .0 .inside); trks-fit = p .0 .trks-fit; few = p .0 .few }, (p .0 .confs-fit, (p .1 .0, p .0 .row-inside)))
 
 row-score-requires : tie.Need-row-score-requires
-row-score-requires c κs = ap length (c .before .before .before .before .before .similarity-row .ensures) ∙ length-tab _ _ ∙ c .before .before .before .before .before .before .before .before .before .before .before .before .before .before .before .before .pre .1 .1
+row-score-requires c κs = ap length (after-similarity-row·row-score-requires c .similarity-row .ensures) ∙ length-tab _ _ ∙ start·row-score-requires c .pre .1 .1
 
 returns : tie.Need-returns
 unfolding boostedScore
 returns c =
-    let w = c .before .before .before .before .before .before .before .before .before .before .before .before .before .before .before .before .before .args in
-    c .row-score .ensures ∙ score-is (w .q) _ _ _ _ (w .score) (c .before .before .before .before .before .before .similarity-row .ensures) (c .before .before .before .before .before .before .before .before .before .before .before .before .before .before .before .before .before .pre .1 .1) ∙ rw (part-is (now (w .detections)) (w .i))
+    let w = start c .args in
+    c .row-score .ensures ∙ score-is (w .q) _ _ _ _ (w .score) (after-similarity-row c .similarity-row .ensures) (start c .pre .1 .1) ∙ rw (part-is (now (w .detections)) (w .i))
 
 pub boosted-in-spec : {M : Type 1} → statement M
 boosted-in-spec =

@@ -18,20 +18,30 @@ Inv-loop boxes tracks detections x sigma out₀ at₀ i₀ out at i = Rowing (λ
 abbrev μ-loop : tie.MeasureT-loop
 μ-loop boxes tracks detections x sigma out₀ at₀ i₀ out at i = boxes - i
 
+-- The places that the answers go back to.
+abbrev start·distance-row-requires : tie.After-distance-row-arg Inv-loop μ-loop → tie.Start Inv-loop μ-loop
+start·distance-row-requires c = c .before .before .before .before .before .before .before .before .before
+
+abbrev after-det : tie.After-slice-known2 Inv-loop μ-loop → tie.After-det Inv-loop μ-loop
+after-det c = c .before .before .before .before .before
+
+abbrev start : tie.After-slice-known2 Inv-loop μ-loop → tie.Start Inv-loop μ-loop
+start c = start·distance-row-requires (c .before .before .before)
+
 distance-row-requires : tie.Need-distance-row-requires Inv-loop μ-loop
 distance-row-requires c κs =
     let test = c .before .before .before in
-    rw (row-part (test .before .loop .inv) (test .loop-test .taken)) (c .before .before .before .before .before .before .before .before .before .pre .x-fits, c .before .before .before .before .before .before .before .before .before .pre .sigma-fits)
+    rw (row-part (test .before .loop .inv) (test .loop-test .taken)) (start·distance-row-requires c .pre .x-fits, start·distance-row-requires c .pre .sigma-fits)
 
 add-at : tie.Need-add-at Inv-loop μ-loop
-add-at c = omega (arith, row-room (c .before .before .before .before .before .before .before .loop .inv) (c .before .before .before .before .before .before .loop-test .taken))
+add-at c = omega (arith, row-room (after-det c .before .before .loop .inv) (after-det c .before .loop-test .taken))
 
 loop-again : tie.Need-loop-again Inv-loop μ-loop
 loop-again c =
     let row = c .before .before in
     let test = c .before .before .before .before .before .before in
     let inv = test .before .loop .inv in
-    let start = c .before .before .before .before .before .before .before .before .before .before .before .before in
+    let start = start c in
     rows-on inv (test .loop-test .taken) (λ k. length-tab _ _)
     (row .distance-row .ensures
     ∙ rw (row-part inv (test .loop-test .taken), c .before .before .before .before .convert-bbox-to-z .ensures, c .before .before .before .before .before .det .ensures)

@@ -1,7 +1,7 @@
 -- `sizes::of_dlo` meets its contract: each return is the verdict where the tests are as that return found them. Assumes nothing.
 use borrow.Author.Needs.{needs}
 use mathlib.Core.Path.{_∙_, sym}
-use Rattle.assoc_similarity.proofs.Laws.{few-sides}
+use Rattle.refusals.proofs.Laws.{few-sides}
 use Rattle.boost_tracker_dlo.proofs.sizes.of_dlo.Statement.{statement}
 use Rattle.boost_tracker_dlo.proofs.sizes.of_dlo.Tie as tie
 

@@ -4,7 +4,7 @@ use borrow.Author.Tests.{le-ltb, lt-ltb}
 use mathlib.Core.Path.{_∙_, sym}
 use native.Mathlib.Omega.{arith}
 use Rattle.laws.specs.Sides.{sides-fit}
-use Rattle.assoc_similarity.proofs.Laws.{few-sides}
+use Rattle.refusals.proofs.Laws.{few-sides}
 use Rattle.boost_tracker_dlo.proofs.sizes.of_states.Statement.{statement}
 use Rattle.boost_tracker_dlo.proofs.sizes.of_states.Tie as tie
 

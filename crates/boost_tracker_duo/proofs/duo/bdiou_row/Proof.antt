@@ -11,9 +11,13 @@ use Rattle.assoc_similarity.specs.Overlap.{iouBatch}
 use Rattle.boost_tracker_duo.proofs.duo.bdiou_row.Statement.{statement}
 use Rattle.boost_tracker_duo.proofs.duo.bdiou_row.Tie as tie
 
+-- The places that the answers go back to.
+abbrev start : tie.After-slice-known3 → tie.Start
+start c = c .before .before .before .before .before .before .before .before
+
 returns : tie.Need-returns
 returns c =
-    let start = c .before .before .before .before .before .before .before .before in
+    let start = start c in
     let w = start .args in
     let n = start .pre .1 .1 in
     let room : w .i * 4 + 4 ≤ length (now (w .bboxes)) = omega (arith, start .pre .0) in

@@ -14,16 +14,23 @@ Inv-loop detections candidates out₀ at₀ i₀ out at i = Rowing (λ k. boxOf 
 abbrev μ-loop : tie.MeasureT-loop
 μ-loop detections candidates out₀ at₀ i₀ out at i = length candidates - i
 
+-- The places that the answers go back to.
+abbrev start : tie.After-copy-box-arg Inv-loop μ-loop → tie.Start Inv-loop μ-loop
+start c = c .before .before .before .before .before .before .before
+
+abbrev in-loop : tie.After-slice-known2 Inv-loop μ-loop → tie.In-loop Inv-loop μ-loop
+in-loop c = c .before .before .before .before .before
+
 copy-box-requires : tie.Need-copy-box-requires Inv-loop μ-loop
 copy-box-requires c κs =
     let test = c .before .before in
-    (c .before .before .before .before .before .before .before .pre .0 (test .before .loop .i) (test .loop-test .taken), row-part (test .before .loop .inv) (test .loop-test .taken))
+    (start c .pre .0 (test .before .loop .i) (test .loop-test .taken), row-part (test .before .loop .inv) (test .loop-test .taken))
 
 add-at : tie.Need-add-at Inv-loop μ-loop
-add-at c = omega (arith, row-room (c .before .before .before .before .before .before .loop .inv) (c .before .before .before .before .before .loop-test .taken))
+add-at c = omega (arith, row-room (in-loop c .before .loop .inv) (in-loop c .loop-test .taken))
 
 loop-again : tie.Need-loop-again Inv-loop μ-loop
-loop-again c = rows-on (c .before .before .before .before .before .before .loop .inv) (c .before .before .before .before .before .loop-test .taken) (λ k. refl) (c .before .before .copy-box .ensures)
+loop-again c = rows-on (in-loop c .before .loop .inv) (in-loop c .loop-test .taken) (λ k. refl) (c .before .before .copy-box .ensures)
 
 pub boost-bboxes-spec : {M : Type 1} → statement M
 boost-bboxes-spec =
@@ -38,8 +45,8 @@ boost-bboxes-spec =
     (λ c. omega (arith, row-room (c .before .before .loop .inv) (c .before .loop-test .taken)))
     copy-box-requires
     add-at
-    (λ c. omega (arith, c .before .before .before .before .before .loop-test .taken))
-    (λ c. omega (arith, c .before .before .before .before .before .loop-test .taken))
+    (λ c. omega (arith, in-loop c .loop-test .taken))
+    (λ c. omega (arith, in-loop c .loop-test .taken))
     loop-again
     (λ c. c .before .loop .inv .same)
     (λ c. rows-end (c .before .loop .inv) (c .loop-test .left)))

@@ -19,14 +19,27 @@ float-from-bits-most : tie.Need-float-from-bits-most Inv-loop μ-loop
 unfolding nanBits
 float-from-bits-most c = tt
 
+-- The places that the answers go back to.
+abbrev start·mul-conf-with-3 : tie.After-shared-slice-known7 Inv-loop μ-loop → tie.Start Inv-loop μ-loop
+start·mul-conf-with-3 c = c .before .before .before .before .before .before .before .before .before
+
+abbrev at-loop : tie.After-shared-slice-known8 Inv-loop μ-loop → tie.At-loop Inv-loop μ-loop
+at-loop c = c .before .before .before .before .before
+
+abbrev start : tie.After-shared-slice-known8 Inv-loop μ-loop → tie.Start Inv-loop μ-loop
+start c = start·mul-conf-with-3 (c .before)
+
+abbrev in-loop : tie.After-conf-with Inv-loop μ-loop → tie.In-loop Inv-loop μ-loop
+in-loop c = c .before .before .before .before .before
+
 mul-conf-with-3 : tie.Need-mul-conf-with-3 Inv-loop μ-loop
-mul-conf-with-3 c = omega (arith, c .before .before .before .before .before .before .before .before .before .pre .0 (c .before .before .before .before .loop .j) (c .before .before .before .loop-test .taken))
+mul-conf-with-3 c = omega (arith, start·mul-conf-with-3 c .pre .0 (c .before .before .before .before .loop .j) (c .before .before .before .loop-test .taken))
 
 shared-slice-read-conf-with-3 : tie.Need-shared-slice-read-conf-with-3 Inv-loop μ-loop
-shared-slice-read-conf-with-3 c = omega (arith, c .before .before .before .before .before .before .before .before .before .before .pre .0 (c .before .before .before .before .before .loop .j) (c .before .before .before .before .loop-test .taken))
+shared-slice-read-conf-with-3 c = omega (arith, start c .pre .0 (at-loop c .loop .j) (c .before .before .before .before .loop-test .taken))
 
 loop-again : tie.Need-loop-again Inv-loop μ-loop
-loop-again c = fold-on (c .before .before .before .before .before .before .loop .inv) (c .before .before .before .before .before .loop-test .taken) (c .conf-with .ensures)
+loop-again c = fold-on (in-loop c .before .loop .inv) (in-loop c .loop-test .taken) (c .conf-with .ensures)
 
 returns : tie.Need-returns Inv-loop μ-loop
 unfolding confRow

@@ -5,8 +5,12 @@ use mathlib.Core.Path.{sym}
 use Rattle.boost_tracker_duo.proofs.duo.duo.Statement.{statement}
 use Rattle.boost_tracker_duo.proofs.duo.duo.Tie as tie
 
+-- The places that the answers go back to.
+abbrev start : tie.After-duo-in-arg → tie.Start
+start c = c .before .before .before .before .before
+
 duo-in-requires : tie.Need-duo-in-requires
-duo-in-requires c κs = (c .before .before .before .before .before .pre, length-take-le _ _ (c .before .before .before .before .before .pre .few))
+duo-in-requires c κs = (start c .pre, length-take-le _ _ (start c .pre .few))
 
 pub duo-spec : {M : Type 1} → statement M
 duo-spec =

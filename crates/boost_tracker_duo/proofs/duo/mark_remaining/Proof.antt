@@ -15,20 +15,30 @@ Inv-loop bboxes max candidates scores marks₀ i₀ marks i = Filling (remains b
 abbrev μ-loop : tie.MeasureT-loop
 μ-loop bboxes max candidates scores marks₀ i₀ marks i = length marks₀ - i
 
+-- The places that the answers go back to.
+abbrev start·returns : tie.After-loop Inv-loop μ-loop → tie.Start Inv-loop μ-loop
+start·returns c = c .before .before .before .before .before .before .before
+
+abbrev start·remains-requires : tie.In-loop Inv-loop μ-loop → tie.Start Inv-loop μ-loop
+start·remains-requires c = c .before .before .before .before .before .before .before
+
+abbrev start : tie.After-remains Inv-loop μ-loop → tie.Start Inv-loop μ-loop
+start c = start·remains-requires (c .before)
+
 remains-requires : tie.Need-remains-requires Inv-loop μ-loop
-remains-requires c κs = let p = c .before .before .before .before .before .before .before .pre in record { inside = c .loop-test .taken; bboxes-fit = p .bboxes-fit; max-fits = p .max-fits; few = p .few; scored = p .scored }
+remains-requires c κs = let p = start·remains-requires c .pre in record { inside = c .loop-test .taken; bboxes-fit = p .bboxes-fit; max-fits = p .max-fits; few = p .few; scored = p .scored }
 
 slice-write-marks : tie.Need-slice-write-marks Inv-loop μ-loop
-slice-write-marks c = omega (arith, c .before .loop-test .taken, c .before .before .loop .inv .same, c .before .before .before .before .before .before .before .before .pre .marks-fit)
+slice-write-marks c = omega (arith, c .before .loop-test .taken, c .before .before .loop .inv .same, start c .pre .marks-fit)
 
 loop-less : tie.Need-loop-less Inv-loop μ-loop
-loop-less c = omega (arith, c .before .loop-test .taken, c .before .before .before .before .before .before .before .before .pre .marks-fit)
+loop-less c = omega (arith, c .before .loop-test .taken, start c .pre .marks-fit)
 
 loop-again : tie.Need-loop-again Inv-loop μ-loop
-loop-again c = fill-on _ _ _ (c .before .before .loop .inv) (omega (arith, c .before .loop-test .taken, c .before .before .before .before .before .before .before .before .pre .marks-fit)) (le-refl _) (c .remains .ensures)
+loop-again c = fill-on _ _ _ (c .before .before .loop .inv) (omega (arith, c .before .loop-test .taken, start c .pre .marks-fit)) (le-refl _) (c .remains .ensures)
 
 returns : tie.Need-returns Inv-loop μ-loop
-returns c = fill-whole _ _ _ (c .before .loop .inv) (omega (arith, c .loop-test .left, c .before .before .before .before .before .before .before .pre .marks-fit)) refl
+returns c = fill-whole _ _ _ (c .before .loop .inv) (omega (arith, c .loop-test .left, start·returns c .pre .marks-fit)) refl
 
 pub mark-remaining-spec : {M : Type 1} → statement M
 mark-remaining-spec =

@@ -15,14 +15,21 @@ Inv-loop marks candidates raised scores₀ i₀ scores i = Folding (λ out k. co
 abbrev μ-loop : tie.MeasureT-loop
 μ-loop marks candidates raised scores₀ i₀ scores i = length candidates - i
 
+-- The places that the answers go back to.
+abbrev start : tie.After-shared-slice-known4 Inv-loop μ-loop → tie.Start Inv-loop μ-loop
+start c = c .before .before .before .before .before .before .before .before
+
+abbrev in-loop : tie.After-slice-known2 Inv-loop μ-loop → tie.In-loop Inv-loop μ-loop
+in-loop c = c .before .before .before .before .before .before
+
 shared-slice-read-raise-one-2 : tie.Need-shared-slice-read-raise-one-2 Inv-loop μ-loop
-shared-slice-read-raise-one-2 c = omega (arith, c .before .before .before .loop-test .taken, c .before .before .before .before .before .before .before .before .pre .1)
+shared-slice-read-raise-one-2 c = omega (arith, c .before .before .before .loop-test .taken, start c .pre .1)
 
 raise-one-requires : tie.Need-raise-one-requires Inv-loop μ-loop
-raise-one-requires c κs = omega (arith, c .before .before .before .before .before .before .before .before .pre .0 (c .before .before .before .before .loop .i) (c .before .before .before .loop-test .taken), c .before .before .before .before .loop .inv .1)
+raise-one-requires c κs = omega (arith, start c .pre .0 (c .before .before .before .before .loop .i) (c .before .before .before .loop-test .taken), c .before .before .before .before .loop .inv .1)
 
 loop-again : tie.Need-loop-again Inv-loop μ-loop
-loop-again c = (fold-on (c .before .before .before .before .before .before .before .loop .inv .0) (c .before .before .before .before .before .before .loop-test .taken) (c .before .before .raise-one .ensures), c .before .before .raise-one .kept .0 ∙ c .before .before .before .before .before .before .before .loop .inv .1)
+loop-again c = (fold-on (in-loop c .before .loop .inv .0) (in-loop c .loop-test .taken) (c .before .before .raise-one .ensures), c .before .before .raise-one .kept .0 ∙ in-loop c .before .loop .inv .1)
 
 returns : tie.Need-returns Inv-loop μ-loop
 unfolding raisedBy
@@ -36,8 +43,8 @@ raise-spec =
     (λ c. omega (arith, c .before .before .loop-test .taken))
     shared-slice-read-raise-one-2
     raise-one-requires
-    (λ c. omega (arith, c .before .before .before .before .before .before .loop-test .taken))
-    (λ c. omega (arith, c .before .before .before .before .before .before .loop-test .taken))
+    (λ c. omega (arith, in-loop c .loop-test .taken))
+    (λ c. omega (arith, in-loop c .loop-test .taken))
     loop-again
     (λ c. c .before .loop .inv .1)
     returns)

@@ -13,9 +13,13 @@ float-from-bits-largest : tie.Need-float-from-bits-largest
 unfolding nanBits
 float-from-bits-largest c = tt
 
+-- The places that the answers go back to.
+abbrev start : tie.After-largest → tie.Start
+start c = c .before .before .before .before .before .before .before .before
+
 returns : tie.Need-returns
 unfolding ownMax
-returns c = c .largest .ensures ∙ fold-row (own (now (c .before .before .before .before .before .before .before .before .args .bboxes)) (c .before .before .before .before .before .before .before .before .args .i)) _ negInfinity (c .before .before .before .before .bdiou-row .ensures)
+returns c = c .largest .ensures ∙ fold-row (own (now (start c .args .bboxes)) (start c .args .i)) _ negInfinity (c .before .before .before .before .bdiou-row .ensures)
 
 pub row-max-in-spec : {M : Type 1} → statement M
 row-max-in-spec =

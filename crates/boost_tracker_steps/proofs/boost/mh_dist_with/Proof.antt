@@ -8,14 +8,25 @@ use borrow.Author.Needs.{needs}
 use Rattle.boost_tracker_steps.proofs.boost.mh_dist_with.Statement.{statement}
 use Rattle.boost_tracker_steps.proofs.boost.mh_dist_with.Tie as tie
 
+-- The places that the answers go back to.
+abbrev after-rows2 : tie.After-slice-known6 → tie.After-rows2
+after-rows2 c = c .before .before .before .before .before .before .before .before
+
+abbrev after-rows : tie.After-rows2 → tie.After-rows
+after-rows c = c .before .before .before .before
+
+abbrev start : tie.After-rows → tie.Start
+start c = c .before .before .before .before .before .before .before .before
+
 returns : tie.Need-returns
 returns c =
-    let a = c .before .before .before .before .before .before .before .before .before .before .before .before .before .before .before .before .before .before .before .before .args in
-    let p = c .before .before .before .before .before .before .before .before .before .before .before .before .before .before .before .before .before .before .before .before .pre in
-    let states = c .before .before .before .before .before .before .before .before .before .before .before .before .rows in
-    let sigmas = c .before .before .before .before .before .before .before .before .rows2 in
-    distances-are (now (a .corners)) (a .boxes) (a .held) (now (a .out)) (p .0) (trackerAt (tracks (now (a .floats)) (now (a .counters)) (a .held))) (now (a .x)) (now (a .sigma)) (states .ensures) (sigmas .ensures)
-    (states .kept .1 .1 .1 .1 .0 ∙ p .1 .0) (sigmas .kept .1 .1 .1 .1 .0 ∙ p .1 .1) (c .before .before .get-mh-dist-matrix .ensures .0) (c .before .before .get-mh-dist-matrix .ensures .1)
+    let sigmas = after-rows2 c in
+    let states = after-rows sigmas in
+    let a = start states .args in
+    let p = start states .pre in
+    let matrix = c .before .before .get-mh-dist-matrix .ensures in
+    distances-are (now (a .corners)) (a .boxes) (a .held) (now (a .out)) (p .0) (trackerAt (tracks (now (a .floats)) (now (a .counters)) (a .held))) (now (a .x)) (now (a .sigma))
+    (states .rows .ensures) (sigmas .rows2 .ensures) (states .rows .kept .1 .1 .1 .1 .0 ∙ p .1 .0) (sigmas .rows2 .kept .1 .1 .1 .1 .0 ∙ p .1 .1) (matrix .0) (matrix .1)
 
 pub mh-dist-with-spec : {M : Type 1} → statement M
 mh-dist-with-spec =

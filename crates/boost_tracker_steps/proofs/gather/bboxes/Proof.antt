@@ -5,7 +5,7 @@ use mathlib.Core.Path.{_∙_, ap, refl, sym}
 use native.Mathlib.Nat.{le-of-eq}
 use native.Mathlib.Omega.{arith}
 use Rattle.laws.specs.Grid.{Rowing, row-part, row-room, rows-end, rows-on, rows-start}
-use Rattle.boost_tracker_table.specs.Verdict.{boxesIn}
+use Rattle.boost_tracker_verdict.specs.Verdict.{boxesIn}
 use Rattle.boost_tracker_definition.specs.Update.{cornersOf, xyxyOf}
 use Rattle.boost_tracker_steps.proofs.GatherLaws.{bboxes-are}
 use Rattle.boost_tracker_steps.proofs.gather.bboxes.Statement.{statement}
@@ -17,8 +17,12 @@ Inv-loop objects corners₀ n at₀ i₀ corners at i = Rowing (λ k. cornersOf 
 abbrev μ-loop : tie.MeasureT-loop
 μ-loop objects corners₀ n at₀ i₀ corners at i = boxesIn objects - i
 
+-- The places that the answers go back to.
+abbrev in-loop : tie.After-slice-known2 Inv-loop μ-loop → tie.In-loop Inv-loop μ-loop
+in-loop c = c .before .before .before .before .before .before
+
 loop-again : tie.Need-loop-again Inv-loop μ-loop
-loop-again c = rows-on (c .before .before .before .before .before .before .before .loop .inv) (c .before .before .before .before .before .before .loop-test .taken) (λ k. refl) (c .before .before .put-four .ensures ∙ c .before .before .before .of-corners .ensures ∙ ap cornersOf (c .before .before .before .before .xyxy-of .ensures))
+loop-again c = rows-on (in-loop c .before .loop .inv) (in-loop c .loop-test .taken) (λ k. refl) (c .before .before .put-four .ensures ∙ c .before .before .before .of-corners .ensures ∙ ap cornersOf (c .before .before .before .before .xyxy-of .ensures))
 
 returns : tie.Need-returns Inv-loop μ-loop
 returns c = let a = c .before .before .before .before .args in rows-end (c .before .loop .inv) (c .loop-test .left) ∙ bboxes-are (now (a .objects)) (now (a .corners)) (c .before .before .before .before .pre)
@@ -38,9 +42,9 @@ bboxes-spec =
     (λ c κs. omega (arith, c .before .loop-test .taken))
     (λ c κs. tt)
     (λ c κs. row-part (c .before .before .before .before .loop .inv) (c .before .before .before .loop-test .taken))
-    (λ c. omega (arith, row-room (c .before .before .before .before .before .before .before .loop .inv) (c .before .before .before .before .before .before .loop-test .taken)))
-    (λ c. omega (arith, c .before .before .before .before .before .before .loop-test .taken))
-    (λ c. omega (arith, c .before .before .before .before .before .before .loop-test .taken))
+    (λ c. omega (arith, row-room (in-loop c .before .loop .inv) (in-loop c .loop-test .taken)))
+    (λ c. omega (arith, in-loop c .loop-test .taken))
+    (λ c. omega (arith, in-loop c .loop-test .taken))
     loop-again
     (λ c. c .before .loop .inv .same)
     returns)

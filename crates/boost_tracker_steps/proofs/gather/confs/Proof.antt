@@ -8,7 +8,7 @@ use Rattle.laws.specs.Tab.{Filling, fill-on, fill-start, fill-whole}
 use Rattle.strack.specs.declared.strack.KalmanBoxTracker.{KalmanBoxTracker}
 use Rattle.strack.specs.Strack.{getConfidence}
 use Rattle.boost_tracker_table.specs.Table.{tracks}
-use Rattle.boost_tracker_table.specs.Laws.{tracks-many}
+use Rattle.boost_tracker_table.proofs.Laws.{tracks-many}
 use Rattle.boost_tracker_table.specs.Record.{nineTenths}
 use Rattle.boost_tracker_definition.specs.Update.{trackerAt}
 use Rattle.boost_tracker_steps.proofs.GatherLaws.{confs-are}
@@ -21,15 +21,22 @@ Inv-loop floats counters held out₀ j₀ out j = Filling (λ k. getConfidence (
 abbrev μ-loop : tie.MeasureT-loop
 μ-loop floats counters held out₀ j₀ out j = held - j
 
+-- The places that the answers go back to.
+abbrev start·returns : tie.After-loop Inv-loop μ-loop → tie.Start Inv-loop μ-loop
+start·returns c = c .before .before .before .before .before
+
+abbrev start : tie.After-get-confidence Inv-loop μ-loop → tie.Start Inv-loop μ-loop
+start c = c .before .before .before .before .before .before .before
+
 loop-again : tie.Need-loop-again Inv-loop μ-loop
 loop-again c =
-    fill-on _ _ _ (c .before .before .before .loop .inv) (c .before .before .loop-test .taken) (le-of-eq (sym (c .before .before .before .before .before .before .before .pre .0)))
+    fill-on _ _ _ (c .before .before .before .loop .inv) (c .before .before .loop-test .taken) (le-of-eq (sym (start c .pre .0)))
     (c .get-confidence .ensures ∙ ap (λ (t : KalmanBoxTracker). getConfidence t nineTenths) (c .before .load .ensures))
 
 returns : tie.Need-returns Inv-loop μ-loop
 returns c =
-    let a = c .before .before .before .before .before .args in
-    fill-whole _ _ _ (c .before .loop .inv) (c .loop-test .left) (c .before .before .before .before .before .pre .0) ∙ confs-are (tracks (now (a .floats)) (now (a .counters)) (a .held)) (a .held) (tracks-many (now (a .floats)) (now (a .counters)) (a .held) (c .before .before .before .before .before .pre .1))
+    let a = start·returns c .args in
+    fill-whole _ _ _ (c .before .loop .inv) (c .loop-test .left) (start·returns c .pre .0) ∙ confs-are (tracks (now (a .floats)) (now (a .counters)) (a .held)) (a .held) (tracks-many (now (a .floats)) (now (a .counters)) (a .held) (start·returns c .pre .1))
 
 pub confs-spec : {M : Type 1} → statement M
 confs-spec =
@@ -40,9 +47,9 @@ confs-spec =
     (λ c. fill-start _ _ _)
     (λ c κs. tt)
     (λ c κs. tt)
-    (λ c. omega (arith, c .before .before .loop-test .taken, c .before .before .before .loop .inv .same, c .before .before .before .before .before .before .before .pre .0))
-    (λ c. omega (arith, c .before .before .loop-test .taken, c .before .before .before .loop .inv .same, c .before .before .before .before .before .before .before .pre .0))
-    (λ c. omega (arith, c .before .before .loop-test .taken, c .before .before .before .before .before .before .before .fits .held))
+    (λ c. omega (arith, c .before .before .loop-test .taken, c .before .before .before .loop .inv .same, start c .pre .0))
+    (λ c. omega (arith, c .before .before .loop-test .taken, c .before .before .before .loop .inv .same, start c .pre .0))
+    (λ c. omega (arith, c .before .before .loop-test .taken, start c .fits .held))
     (λ c. omega (arith, c .before .before .loop-test .taken))
     loop-again
     (λ c. c .before .loop .inv .same)

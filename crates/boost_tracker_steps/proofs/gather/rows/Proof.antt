@@ -17,10 +17,17 @@ Inv-loop what floats counters held out₀ at₀ j₀ out at j = Rowing (λ k. ro
 abbrev μ-loop : tie.MeasureT-loop
 μ-loop what floats counters held out₀ at₀ j₀ out at j = held - j
 
+-- The places that the answers go back to.
+abbrev after-load : tie.After-slice-known2 Inv-loop μ-loop → tie.After-load Inv-loop μ-loop
+after-load c = c .before .before .before .before .before
+
+abbrev start : tie.After-slice-known2 Inv-loop μ-loop → tie.Start Inv-loop μ-loop
+start c = after-load c .before .before .before .before .before .before
+
 loop-again : tie.Need-loop-again Inv-loop μ-loop
 loop-again c =
-    let what = c .before .before .before .before .before .before .before .before .before .before .before .args .what in
-    rows-on (c .before .before .before .before .before .before .before .loop .inv) (c .before .before .before .before .before .before .loop-test .taken) (λ k. row-size what _) (c .before .before .put-four .ensures ∙ c .before .before .before .four-of .ensures ∙ ap (rowOf what) (c .before .before .before .before .before .load .ensures))
+    let what = start c .args .what in
+    rows-on (after-load c .before .before .loop .inv) (after-load c .before .loop-test .taken) (λ k. row-size what _) (c .before .before .put-four .ensures ∙ c .before .before .before .four-of .ensures ∙ ap (rowOf what) (after-load c .load .ensures))
 
 pub rows-spec : {M : Type 1} → statement M
 rows-spec =
@@ -37,9 +44,9 @@ rows-spec =
     (λ c. omega (arith, row-room (c .before .before .loop .inv) (c .before .loop-test .taken)))
     (λ c κs. tt)
     (λ c κs. row-part (c .before .before .before .before .loop .inv) (c .before .before .before .loop-test .taken))
-    (λ c. omega (arith, row-room (c .before .before .before .before .before .before .before .loop .inv) (c .before .before .before .before .before .before .loop-test .taken), c .before .before .before .before .before .before .before .loop .inv .same, c .before .before .before .before .before .before .before .before .before .before .before .pre .0, c .before .before .before .before .before .before .before .before .before .before .before .pre .1))
-    (λ c. omega (arith, c .before .before .before .before .before .before .loop-test .taken, c .before .before .before .before .before .before .before .before .before .before .before .fits .held))
-    (λ c. omega (arith, c .before .before .before .before .before .before .loop-test .taken))
+    (λ c. omega (arith, row-room (after-load c .before .before .loop .inv) (after-load c .before .loop-test .taken), after-load c .before .before .loop .inv .same, start c .pre .0, start c .pre .1))
+    (λ c. omega (arith, after-load c .before .loop-test .taken, start c .fits .held))
+    (λ c. omega (arith, after-load c .before .loop-test .taken))
     loop-again
     (λ c. c .before .loop .inv .same)
     (λ c. rows-end (c .before .loop .inv) (c .loop-test .left)))

@@ -8,8 +8,15 @@ use borrow.Author.Needs.{needs}
 use Rattle.boost_tracker_steps.proofs.settle.keep_box.Statement.{statement}
 use Rattle.boost_tracker_steps.proofs.settle.keep_box.Tie as tie
 
+-- The places that the answers go back to.
+abbrev then1 : tie.After-slice-known2 → tie.Then1
+then1 c = c .before .before .before .before .before .before
+
+abbrev start : tie.After-slice-known2 → tie.Start
+start c = then1 c .before .before .before
+
 returns : tie.Need-returns
-returns c = let a = c .before .before .before .before .before .before .before .before .before .args in rw (c .before .before .before .before .before .before .if1 .taken) (refl, four-stored (now (a .corners)) (a .w * 4) (c .before .before .put-four .ensures ∙ c .before .before .before .of-corners .ensures ∙ ap cornersOf (c .before .before .before .before .xyxy-of .ensures)))
+returns c = let a = start c .args in rw (then1 c .if1 .taken) (refl, four-stored (now (a .corners)) (a .w * 4) (c .before .before .put-four .ensures ∙ c .before .before .before .of-corners .ensures ∙ ap cornersOf (c .before .before .before .before .xyxy-of .ensures)))
 
 returns-2 : tie.Need-returns-2
 returns-2 c = rw (c .if1 .left) (refl, refl)

@@ -14,13 +14,20 @@ Inv-loop thresh objects scores corners₀ w₀ i₀ corners w i = Keeping (λ k.
 abbrev μ-loop : tie.MeasureT-loop
 μ-loop thresh objects scores corners₀ w₀ i₀ corners w i = length scores - i
 
+-- The places that the answers go back to.
+abbrev start : tie.After-keep-box-arg Inv-loop μ-loop → tie.Start Inv-loop μ-loop
+start c = c .before .before .before .before .before .before .before
+
+abbrev in-loop : tie.After-slice-known2 Inv-loop μ-loop → tie.In-loop Inv-loop μ-loop
+in-loop c = c .before .before .before .before .before
+
 keep-box-requires : tie.Need-keep-box-requires Inv-loop μ-loop
 keep-box-requires c κs =
     let w = c .before .before .before .loop .inv in
-    (omega (arith, c .before .before .loop-test .taken, c .before .before .before .before .before .before .before .pre .0), omega (arith, c .before .before .loop-test .taken, w .few, w .same, c .before .before .before .before .before .before .before .pre .0, c .before .before .before .before .before .before .before .pre .1))
+    (omega (arith, c .before .before .loop-test .taken, start c .pre .0), omega (arith, c .before .before .loop-test .taken, w .few, w .same, start c .pre .0, start c .pre .1))
 
 loop-again : tie.Need-loop-again Inv-loop μ-loop
-loop-again c = keep-on _ _ _ _ _ _ (λ _. refl) (c .before .before .before .before .before .before .loop .inv) (c .before .before .before .before .before .loop-test .taken) (c .before .before .keep-box .ensures .0) (c .before .before .keep-box .ensures .1)
+loop-again c = keep-on _ _ _ _ _ _ (λ _. refl) (in-loop c .before .loop .inv) (in-loop c .loop-test .taken) (c .before .before .keep-box .ensures .0) (c .before .before .keep-box .ensures .1)
 
 returns : tie.Need-returns Inv-loop μ-loop
 unfolding remainInds
@@ -36,8 +43,8 @@ retain-boxes-spec =
     (λ c. omega (arith, c .loop-test .taken))
     (λ c. omega (arith, c .before .loop-test .taken))
     keep-box-requires
-    (λ c. omega (arith, c .before .before .before .before .before .loop-test .taken))
-    (λ c. omega (arith, c .before .before .before .before .before .loop-test .taken))
+    (λ c. omega (arith, in-loop c .loop-test .taken))
+    (λ c. omega (arith, in-loop c .loop-test .taken))
     loop-again
     (λ c. c .before .loop .inv .same)
     returns)

@@ -13,8 +13,12 @@ Inv-loop thresh scores₀ n w₀ i₀ scores w i = Scoring thresh scores₀ (len
 abbrev μ-loop : tie.MeasureT-loop
 μ-loop thresh scores₀ n w₀ i₀ scores w i = length scores₀ - i
 
+-- The places that the answers go back to.
+abbrev at-loop : tie.After-slice-known2 Inv-loop μ-loop → tie.At-loop Inv-loop μ-loop
+at-loop c = c .before .before .before .before .before
+
 loop-again : tie.Need-loop-again Inv-loop μ-loop
-loop-again c = score-on _ _ _ (c .before .before .before .before .before .loop .inv) (c .before .before .before .before .loop-test .taken) refl (c .before .before .keep-score .ensures .0) (c .before .before .keep-score .ensures .1)
+loop-again c = score-on _ _ _ (at-loop c .loop .inv) (c .before .before .before .before .loop-test .taken) refl (c .before .before .keep-score .ensures .0) (c .before .before .keep-score .ensures .1)
 
 pub retain-scores-spec : {M : Type 1} → statement M
 retain-scores-spec =

@@ -10,7 +10,7 @@ use Rattle.laws.specs.Kept.{Keeping, keep-start, keep-on, keep-end}
 use Rattle.records.specs.Laws.Lengths.{length-track}
 use Rattle.records.specs.TrackRecord.{trackBytes}
 use Rattle.boost_tracker_table.specs.Table.{trackAt, placed, tracks}
-use Rattle.boost_tracker_table.specs.Laws.{placed-room}
+use Rattle.boost_tracker_table.proofs.Laws.{placed-room}
 use Rattle.boost_tracker_table.specs.Record.{recordOf, recordBytes}
 use Rattle.boost_tracker_table.specs.Emission.{emits, Emitted}
 use Rattle.boost_tracker_table.proofs.emission.emit.Statement.{statement}
@@ -30,20 +30,30 @@ Inv-loop floats counters held frame hits out₀ n w₀ i₀ out w i = Keeping (r
 abbrev μ-loop : tie.MeasureT-loop
 μ-loop floats counters held frame hits out₀ n w₀ i₀ out w i = n - i
 
+-- The places that the answers go back to.
+abbrev in-loop : tie.After-slice-known2 Inv-loop μ-loop → tie.In-loop Inv-loop μ-loop
+in-loop c = c .before .before .before .before .before
+
+abbrev start : tie.In-loop Inv-loop μ-loop → tie.Start Inv-loop μ-loop
+start c = c .before .before .before .before .before .before .before
+
 track-at-requires : tie.Need-track-at-requires Inv-loop μ-loop
 track-at-requires c κs =
-    let a = c .before .before .before .before .before .before .before .args in
+    let a = start c .args in
     let room = placed-room (length (now (a .floats))) (length (now (a .counters))) (c .before .before .before .smaller .result) in
     omega (arith, c .loop-test .taken, c .before .before .placed .ensures, room .in-floats, room .in-counters)
 
 loop-again : tie.Need-loop-again Inv-loop μ-loop
 loop-again c =
+    let test = in-loop c in
     let load = c .before .before .before .before .track-at .ensures in
     let emit = c .before .before .emit-one .ensures in
-    keep-on _ _ _ _ _ _ (λ t. length-track (recordOf (c .before .before .before .before .before .before .before .before .before .before .before .before .args .frame) t)) (c .before .before .before .before .before .before .loop .inv) (c .before .before .before .before .before .loop-test .taken) (rw load at (emit .0)) (rw load at (emit .1))
+    keep-on _ _ _ _ _ _ (λ t. length-track (recordOf (start test .args .frame) t)) (test .before .loop .inv) (test .loop-test .taken) (rw load at (emit .0)) (rw load at (emit .1))
 
 returns : tie.Need-returns Inv-loop μ-loop
-returns c = let a = c .before .before .before .before .before .before .before .args in whole _ _ (a .held) (a .frame) (a .hits) _ _ _ _ _ _ (c .before .before .before .smaller .ensures) (c .before .before .placed .ensures) (c .before .loop .inv) (c .loop-test .left)
+returns c =
+    let a = c .before .before .before .before .before .before .before .args in
+    whole _ _ (a .held) (a .frame) (a .hits) _ _ _ _ _ _ (c .before .before .before .smaller .ensures) (c .before .before .placed .ensures) (c .before .loop .inv) (c .loop-test .left)
 
 pub emit-spec : {M : Type 1} → statement M
 emit-spec =
@@ -54,8 +64,8 @@ emit-spec =
     (λ c. keep-start _ _ _ _ _ _ (omega (arith, c .placed .ensures, c .before .smaller .ensures)))
     track-at-requires
     (λ c κs. omega (arith, c .before .before .loop-test .taken, c .before .before .before .loop .inv .few, c .before .before .before .loop .inv .room, c .before .before .before .loop .inv .same))
-    (λ c. omega (arith, c .before .before .before .before .before .loop-test .taken, c .before .before .before .before .before .before .before .placed .ensures))
-    (λ c. omega (arith, c .before .before .before .before .before .loop-test .taken))
+    (λ c. omega (arith, in-loop c .loop-test .taken, in-loop c .before .before .placed .ensures))
+    (λ c. omega (arith, in-loop c .loop-test .taken))
     loop-again
     (λ c. c .before .loop .inv .same)
     returns)

@@ -4,7 +4,7 @@ use denote.Ref.{now}
 use native.Mathlib.Omega.{arith}
 use borrow.Author.Needs.{needs}
 use Rattle.boost_tracker_table.specs.Table.{blank}
-use Rattle.boost_tracker_table.specs.Laws.{tracks-at, tracks-past}
+use Rattle.boost_tracker_table.proofs.Laws.{tracks-at, tracks-past}
 use Rattle.boost_tracker_table.proofs.table.load.Statement.{statement}
 use Rattle.boost_tracker_table.proofs.table.load.Tie as tie
 

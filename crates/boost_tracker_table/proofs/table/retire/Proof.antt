@@ -3,7 +3,7 @@ use Prim.Native.Nat.{_-_}
 use native.Mathlib.Omega.{arith}
 use lib.ListN.{length}
 use denote.Ref.{now}
-use Rattle.boost_tracker_table.specs.Laws.{placed-room}
+use Rattle.boost_tracker_table.proofs.Laws.{placed-room}
 use Rattle.boost_tracker_table.proofs.Walks.{Retiring, retire-start, retire-on, retire-all}
 use Rattle.boost_tracker_table.proofs.table.retire.Statement.{statement}
 use Rattle.boost_tracker_table.proofs.table.retire.Tie as tie
@@ -22,8 +22,13 @@ keep-one-requires c κs =
     let w = c .before .before .before .loop .inv in
     omega (arith, c .before .before .loop-test .taken, w .floats .few, w .floats .room, w .counters .room, w .floats .same, w .counters .same)
 
+abbrev in-loop : tie.After-slice-known4 Inv-loop μ-loop → tie.In-loop Inv-loop μ-loop
+in-loop c = c .before .before .before .before .before .before .before
+
 loop-again : tie.Need-loop-again Inv-loop μ-loop
-loop-again c = retire-on _ _ _ _ (c .before .before .before .before .before .before .before .before .loop .inv) (c .before .before .before .before .before .before .before .loop-test .taken) (c .before .before .before .before .keep-one .ensures)
+loop-again c =
+    let test = in-loop c in
+    retire-on _ _ _ _ (test .before .loop .inv) (test .loop-test .taken) (c .before .before .before .before .keep-one .ensures)
 
 pub retire-spec : {M : Type 1} → statement M
 retire-spec =
@@ -32,8 +37,8 @@ retire-spec =
     (λ c κs. tt)
     loop-holds
     keep-one-requires
-    (λ c. omega (arith, c .before .before .before .before .before .before .before .loop-test .taken, c .before .before .before .before .before .before .before .before .loop .inv .floats .upto, c .before .before .before .before .before .before .before .before .before .placed .ensures))
-    (λ c. omega (arith, c .before .before .before .before .before .before .before .loop-test .taken))
+    (λ c. omega (arith, in-loop c .loop-test .taken, in-loop c .before .loop .inv .floats .upto, in-loop c .before .before .placed .ensures))
+    (λ c. omega (arith, in-loop c .loop-test .taken))
     loop-again
     (λ c. c .before .loop .inv .floats .same)
     (λ c. c .before .loop .inv .counters .same)

@@ -8,8 +8,10 @@ use Rattle.boost_tracker_table.proofs.table.store.Tie as tie
 
 returns : tie.Need-returns
 returns c =
-    let a = c .before .before .before .before .before .before .before .before .before .before .before .args in
-    stored (now (a .floats)) (now (a .counters)) (a .held) (a .i) (a .t) (omega (arith, c .before .before .before .before .before .before .before .if1 .taken, c .before .before .before .before .before .before .before .before .placed .ensures)) (c .before .before .before .before .put-track .ensures .0) (c .before .before .before .before .put-track .ensures .1)
+    let put = c .before .before .before .before in
+    let chosen = put .before .before .before in
+    let a = chosen .before .before .before .before .args in
+    stored (now (a .floats)) (now (a .counters)) (a .held) (a .i) (a .t) (omega (arith, chosen .if1 .taken, chosen .before .placed .ensures)) (put .put-track .ensures .0) (put .put-track .ensures .1)
 
 returns-2 : tie.Need-returns-2
 returns-2 c = let a = c .before .before .before .before .args in not-stored (now (a .floats)) (now (a .counters)) (a .held) (a .i) (a .t) (omega (arith, c .if1 .left, c .before .placed .ensures))

@@ -6,14 +6,20 @@ use Rattle.lapjv_augmentation.proofs.path.find_path_dense.Statement.{st
 use Rattle.lapjv_augmentation.proofs.path.find_path_dense.Tie as tie
 
 -- The places that the answers go back to.
+abbrev after-slice-known3 : tie.After-path-init-arg4 → tie.After-slice-known3
+after-slice-known3 c = c .before .before .before .before .before
+
 abbrev start·path-init-requires : tie.After-path-init-arg4 → tie.Start
-start·path-init-requires c = c .before .before .before .before .before .before .before .before .before .before
+start·path-init-requires c = after-slice-known3 c .before .before .before .before .before
 
 abbrev start : tie.After-path-init → tie.Start
 start c = start·path-init-requires (c .before)
 
+abbrev after-pred : tie.After-search-arg4 → tie.After-pred
+after-pred c = c .before .before .before .before .before
+
 abbrev after-path-init·search-requires : tie.After-search-arg4 → tie.After-path-init
-after-path-init·search-requires c = c .before .before .before .before .before .before .before .before .before .before
+after-path-init·search-requires c = after-pred c .before .before .before .before .before
 
 abbrev after-path-init : tie.After-search → tie.After-path-init
 after-path-init c = after-path-init·search-requires (c .before)

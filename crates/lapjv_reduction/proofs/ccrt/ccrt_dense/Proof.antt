@@ -28,8 +28,11 @@ after-ccrt-rows c = after-ccrt-rows·ccrt-cols-requires (c .before)
 abbrev after-ccrt-init·after-ccrt-cols : tie.After-ccrt-cols → tie.After-ccrt-init
 after-ccrt-init·after-ccrt-cols c = after-ccrt-init (after-ccrt-rows c)
 
+abbrev after-unique : tie.After-ccrt-reduce-arg4 → tie.After-unique
+after-unique c = c .before .before .before .before .before
+
 abbrev after-ccrt-cols·ccrt-reduce-requires : tie.After-ccrt-reduce-arg4 → tie.After-ccrt-cols
-after-ccrt-cols·ccrt-reduce-requires c = c .before .before .before .before .before .before .before .before .before .before
+after-ccrt-cols·ccrt-reduce-requires c = after-unique c .before .before .before .before .before
 
 abbrev after-ccrt-cols·after-ccrt-reduce : tie.After-ccrt-reduce → tie.After-ccrt-cols
 after-ccrt-cols·after-ccrt-reduce c = after-ccrt-cols·ccrt-reduce-requires (c .before)

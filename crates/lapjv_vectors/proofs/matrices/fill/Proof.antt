@@ -1,6 +1,6 @@
 -- `lapjv_vectors::matrices::fill` meets its contract. The loop's invariant: `k` is at most the length, which a store
 -- does not change. The measure is what is left of the length. Assumes nothing.
-use mathlib.Core.Path.{_≡_, _∙_}
+use mathlib.Core.Path.{_≡_}
 use Prim.Native.Nat.{_≤_, _-_}
 use native.Mathlib.Omega.{arith}
 use lib.ListN.{length, length-set}

@@ -1,6 +1,5 @@
 -- `lapjv_vectors::text::numbers` meets its contract. The loop's invariant: `k` is at most the length. The measure is
 -- what is left of the length. Assumes nothing.
-use mathlib.Core.Path.{_≡_}
 use Prim.Native.Nat.{_≤_, _-_}
 use native.Mathlib.Omega.{arith}
 use lib.ListN.{length}

@@ -5,7 +5,13 @@ use Rattle.records.proofs.box_record.box_of.Statement.{statement}
 use Rattle.records.proofs.box_record.box_of.Tie as tie
 
 returns : tie.Need-returns
-returns c = box-fields (c .before .before .before .before .before .before .before .before .before .before .u32-of .ensures) (c .before .before .before .before .before .before .before .before .f32-of .ensures) (c .before .before .before .before .before .before .f32-of2 .ensures) (c .before .before .before .before .f32-of3 .ensures) (c .before .before .f32-of4 .ensures) (c .f32-of5 .ensures)
+returns c =
+    let height = c .before .before in
+    let width = height .before .before in
+    let top = width .before .before in
+    let left = top .before .before in
+    let frame = left .before .before in
+    box-fields (frame .u32-of .ensures) (left .f32-of .ensures) (top .f32-of2 .ensures) (width .f32-of3 .ensures) (height .f32-of4 .ensures) (c .f32-of5 .ensures)
 
 pub box-of-spec : {M : Type 1} → statement M
 box-of-spec =

@@ -1,7 +1,7 @@
 -- `records::field::put_u32` meets its contract: the part that was lent comes back as the four bytes. Assumes nothing.
 use mathlib.Core.Path.{_∙_, ap}
 use borrow.Author.Needs.{needs}
-use Rattle.records.specs.Field.{le}
+use Rattle.records.specs.Field.{littleEndian}
 use Rattle.records.specs.Laws.Lengths.{length-le}
 use Rattle.records.proofs.Puts.{put-part, part-length}
 use Rattle.records.proofs.field.put_u32.Statement.{statement}
@@ -10,7 +10,7 @@ use Rattle.records.proofs.field.put_u32.Tie as tie
 returns : tie.Need-returns
 returns c =
     let s = c .before .before .before .before .before in
-    put-part _ _ _ _ _ (s .pre) (c .before .before .spread .ensures ∙ ap (λ k. le k (s .args .n)) (part-length _ _ _ (s .pre))) (length-le _ _)
+    put-part _ _ _ _ _ (s .pre) (c .before .before .spread .ensures ∙ ap (λ k. littleEndian k (s .args .n)) (part-length _ _ _ (s .pre))) (length-le _ _)
 
 pub put-u32-spec : {M : Type 1} → statement M
 put-u32-spec = tie.close (tie.spec (λ c. search needs) (λ c. search needs) (λ c. search needs) (λ c. search needs) (λ c κs. search needs) (λ c. search needs) returns)

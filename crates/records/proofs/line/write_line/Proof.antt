@@ -29,7 +29,11 @@ put-line-requires : tie.Need-put-line-requires
 put-line-requires c κs = omega (arith, c .before .if1 .left, counted (c .before .before .before .before .before .before .args .t) _ _ (c .before .before .before .places .ensures) (c .before .before .places2 .ensures))
 
 returns-2 : tie.Need-returns-2
-returns-2 c = writes-text (counted (c .before .before .before .before .before .before .before .before .before .args .t) _ _ (c .before .before .before .before .before .before .places .ensures) (c .before .before .before .before .before .places2 .ensures)) (c .before .before .before .before .if1 .left) (c .before .before .put-line .ensures)
+returns-2 c =
+    let fits = c .before .before .before .before in
+    let second = fits .before in
+    let long = counted (second .before .before .before .before .args .t) _ _ (second .before .places .ensures) (second .places2 .ensures) in
+    writes-text long (fits .if1 .left) (c .before .before .put-line .ensures)
 
 pub write-line-spec : {M : Type 1} → statement M
 write-line-spec = tie.close (tie.spec (λ c. search needs) (λ c κs. search needs) (λ c κs. search needs) add-n add-n-2 returns put-line-requires (λ c. search needs) returns-2)

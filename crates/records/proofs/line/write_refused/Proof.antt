@@ -28,7 +28,12 @@ put-refused-requires : tie.Need-put-refused-requires
 put-refused-requires c κs = let s = c .before .before .before .before .before .args in omega (arith, c .before .if1 .left, counted (s .number) (s .nth) _ _ (c .before .before .before .places .ensures) (c .before .before .places2 .ensures))
 
 returns-2 : tie.Need-returns-2
-returns-2 c = let s = c .before .before .before .before .before .before .before .before .args in writes-text (counted (s .number) (s .nth) _ _ (c .before .before .before .before .before .before .places .ensures) (c .before .before .before .before .before .places2 .ensures)) (c .before .before .before .before .if1 .left) (c .before .before .put-refused .ensures)
+returns-2 c =
+    let fits = c .before .before .before .before in
+    let second = fits .before in
+    let s = second .before .before .before .args in
+    let long = counted (s .number) (s .nth) _ _ (second .before .places .ensures) (second .places2 .ensures) in
+    writes-text long (fits .if1 .left) (c .before .before .put-refused .ensures)
 
 pub write-refused-spec : {M : Type 1} → statement M
 write-refused-spec = tie.close (tie.spec (λ c κs. search needs) (λ c κs. search needs) add-n add-n-2 returns put-refused-requires (λ c. search needs) returns-2)

@@ -5,7 +5,14 @@ use Rattle.records.proofs.track_record.track_of.Statement.{statement}
 use Rattle.records.proofs.track_record.track_of.Tie as tie
 
 returns : tie.Need-returns
-returns c = track-fields (c .before .before .before .before .before .before .before .before .before .before .before .before .u32-of .ensures) (c .before .before .before .before .before .before .before .before .before .before .u64-of .ensures) (c .before .before .before .before .before .before .before .before .f32-of .ensures) (c .before .before .before .before .before .before .f32-of2 .ensures) (c .before .before .before .before .f32-of3 .ensures) (c .before .before .f32-of4 .ensures) (c .f32-of5 .ensures)
+returns c =
+    let height = c .before .before in
+    let width = height .before .before in
+    let top = width .before .before in
+    let left = top .before .before in
+    let id = left .before .before in
+    let frame = id .before .before in
+    track-fields (frame .u32-of .ensures) (id .u64-of .ensures) (left .f32-of .ensures) (top .f32-of2 .ensures) (width .f32-of3 .ensures) (height .f32-of4 .ensures) (c .f32-of5 .ensures)
 
 pub track-of-spec : {M : Type 1} → statement M
 track-of-spec =

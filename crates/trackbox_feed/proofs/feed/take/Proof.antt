@@ -2,28 +2,47 @@
 use borrow.Author.Needs.{needs}
 use borrow.Author.Tests.{lt-ltb}
 use denote.Ref.{now}
-use Rattle.trackbox_feed.specs.Feed.{lentWith}
+use Rattle.trackbox_feed.specs.Feed.{Lent, lentWith}
 use Rattle.trackbox_feed.proofs.CallLaws.{short-call, turn-call}
 use Rattle.trackbox_feed.proofs.feed.take.Statement.{statement}
 use Rattle.trackbox_feed.proofs.feed.take.Tie as tie
 
+-- The places that the answers go back to: the start, from where its slices are known; the call, from where what it was lent has come back; what was worked out before the call.
+abbrev start : tie.After-slice-known7 → tie.Start
+start c = c .before .before .before .before .before .before .before
+
+abbrev after-out : tie.After-text → tie.After-out
+after-out c = c .before .before .before .before .before .before
+
+abbrev after-work-task : tie.After-out → tie.After-work-task
+after-work-task c = c .before .before .before .before .before
+
+abbrev after-task-of : tie.After-work-task-arg7 → tie.After-task-of
+after-task-of c = c .before .before .before .before .before .before .before
+
+abbrev lent : tie.Start → Lent
+lent c =
+    let a = c .args in
+    lentWith (now (a .floats)) (now (a .counters)) (now (a .out)) (now (a .work64)) (now (a .work32)) (now (a .text))
+
 returns : tie.Need-returns
 returns c =
-    let a = c .before .before .before .before .before .before .before .before .args in
-    let l = lentWith (now (a .floats)) (now (a .counters)) (now (a .out)) (now (a .work64)) (now (a .work32)) (now (a .text)) in
-    short-call (a .feed) (now (a .boxes)) l (a .item) (c .if1 .taken)
+    let from = start (c .before) in
+    short-call (from .args .feed) (now (from .args .boxes)) (lent from) (from .args .item) (c .if1 .taken)
 
 work-task-requires : tie.Need-work-task-requires
-work-task-requires c κs = lt-ltb _ _ (c .before .before .before .before .before .before .before .before .before .before .if1 .left)
+work-task-requires c κs = lt-ltb _ _ (after-task-of c .before .before .before .if1 .left)
 
 returns-2 : tie.Need-returns-2
 returns-2 c =
     let held = c .before .before .before in
-    let worked = held .before .before .before .before .before .before .before .before .before .before .before .before .before .before in
-    let turn = worked .before .before .before .before .before .before .before .before .before in
-    let a = turn .before .before .before .before .before .before .before .before .before .before .args in
-    let l = lentWith (now (a .floats)) (now (a .counters)) (now (a .out)) (now (a .work64)) (now (a .work32)) (now (a .text)) in
-    turn-call (a .feed) (now (a .boxes)) l (a .item) (turn .before .before .if1 .left) (turn .turn-of .ensures) (worked .before .before .before .before .before .before .before .before .task-of .ensures) (worked .work-task .ensures) (held .hold-turn .ensures) (c .answer .ensures)
+    let worked = after-work-task (after-out (held .before .before .before)) in
+    let task = after-task-of (worked .before) in
+    let turn = task .before in
+    let test = turn .before .before in
+    let from = start (test .before) in
+    turn-call (from .args .feed) (now (from .args .boxes)) (lent from) (from .args .item) (test .if1 .left) (turn .turn-of .ensures) (task .task-of .ensures)
+    (worked .work-task .ensures) (held .hold-turn .ensures) (c .answer .ensures)
 
 pub take-spec : {M : Type 1} → statement M
 take-spec =

@@ -9,10 +9,16 @@ returns : tie.Need-returns
 returns c = rw (lt-ltb 0 (c .before .before .args .feed .empty) (c .if1 .taken))
 
 returns-2 : tie.Need-returns-2
-returns-2 c = next-turn (c .before .before .before .before .before .before .before .before .args .feed) (c .before .before .before .before .before .before .if1 .left) (c .before .before .before .item .given .1) (c .before .judge .ensures) (c .of-next .ensures)
+returns-2 c =
+    let told = c .before .before .before in
+    let test = told .before .before .before in
+    next-turn (test .before .before .args .feed) (test .if1 .left) (told .item .given .1) (c .before .judge .ensures) (c .of-next .ensures)
 
 returns-3 : tie.Need-returns-3
-returns-3 c = end-turn (c .before .before .before .before .before .before .before .before .args .feed) (c .before .before .before .before .before .before .if1 .left) (c .before .before .before .item2 .given .1) (c .before .close .ensures) (c .of-ending .ensures)
+returns-3 c =
+    let told = c .before .before .before in
+    let test = told .before .before .before in
+    end-turn (test .before .before .args .feed) (test .if1 .left) (told .item2 .given .1) (c .before .close .ensures) (c .of-ending .ensures)
 
 pub turn-of-spec : {M : Type 1} → statement M
 turn-of-spec =

@@ -2,38 +2,74 @@
 use mathlib.Core.Path.{refl, sym}
 use Prim.Native.Nat.{_*_}
 use native.Mathlib.Omega.{arith}
+use mathlib.Core.List.{List}
 use lib.ListN.{take}
+use lib.Ieee.{Float}
 use lib.Seq.{length-take-le}
 use borrow.Author.Needs.{needs}
 use denote.Ref.{now}
-use Rattle.trackbox_feed.specs.Feed.{lentWith}
+use Rattle.records.specs.BoxRecord.{boxValues}
+use Rattle.boost_tracker.specs.Frame.{Memory, memoryWith}
 use Rattle.trackbox_feed.proofs.CallLaws.{frame-worked, refused-worked}
 use Rattle.trackbox_feed.proofs.FrameLaws.{work-refused, work-accepted, emitted-room, text-room}
 use Rattle.trackbox_feed.proofs.frame.work_task.Statement.{statement}
 use Rattle.trackbox_feed.proofs.frame.work_task.Tie as tie
 
+-- The places that the answers go back to: the start, from where its slices are known; the call of `update`, from where what it was lent has come back; what it was called with.
+abbrev start : tie.After-slice-known6 → tie.Start
+start c = c .before .before .before .before .before .before .before
+
+abbrev after-out : tie.After-then → tie.After-out
+after-out c = c .before .before .before .before .before .before
+
+abbrev after-update : tie.After-out → tie.After-update
+after-update c = c .before .before .before .before .before
+
+abbrev after-settings : tie.After-update → tie.After-settings
+after-settings c = c .before .before .before .before .before .before .before
+
+abbrev start·sized : tie.After-smaller → tie.Start
+start·sized c = start (c .before .before .before .before)
+
+-- what `update` is lent, and the boxes that it is handed
+abbrev lent : tie.Start → Memory
+lent c =
+    let a = c .args in
+    memoryWith (now (a .floats)) (now (a .counters)) (now (a .out)) (now (a .work64)) (now (a .work32))
+
+abbrev front : tie.After-smaller → List Float
+front c = take (c .smaller .result * boxValues) (now (start·sized c .args .boxes))
+
 slice-aggregate-update : tie.Need-slice-aggregate-update
 slice-aggregate-update c = sym (length-take-le _ _ (omega (arith, c .before .before .before .before .smaller .ensures)))
+
+put-refused-requires : tie.Need-put-refused-requires
+put-refused-requires c κs =
+    let updated = after-update (after-out (c .before .before .before .before)) in
+    text-room _ _ (start·sized (after-settings updated .before) .pre)
 
 returns : tie.Need-returns
 returns c =
     let told = c .before .before .before .before .before in
-    let updated = told .before .before .before .before .before .before .before .before .before .before .before .before .before in
-    let size = updated .before .before .before .before .before .before .before .before in
-    let a = size .before .before .before .before .before .before .before .before .before .before .before .args in
-    let b = take (size .smaller .result * 5) (now (a .boxes)) in
-    let l = lentWith (now (a .floats)) (now (a .counters)) (now (a .out)) (now (a .work64)) (now (a .work32)) (now (a .text)) in
-    frame-worked (a .state) (a .nth) (now (a .boxes)) l (size .before .before .task .given .1) (size .smaller .ensures)
-    (work-refused _ (updated .before .before .before .before .before .before .before .settings .ensures) (a .state) (a .nth) (now (a .floats)) (now (a .counters)) b (now (a .out)) (now (a .work64)) (now (a .work32)) (now (a .text)) (updated .update .ensures) (told .enum-told3 .given .1) (c .before .before .before .before .number .ensures) (c .before .before .put-refused .ensures))
+    let updated = after-update (after-out (told .before .before)) in
+    let set = after-settings updated in
+    let size = set .before in
+    let from = start·sized size in
+    let a = from .args in
+    frame-worked (a .state) (a .nth) (now (a .boxes)) (record { memory = lent from; text = now (a .text) }) (size .before .before .task .given .1) (size .smaller .ensures)
+    (work-refused _ (set .settings .ensures) (a .state) (a .nth) (front size) (lent from) (now (a .text)) (updated .update .ensures) (told .enum-told3 .given .1)
+    (c .before .before .before .before .number .ensures) (c .before .before .put-refused .ensures))
 
 put-lines-requires : tie.Need-put-lines-requires
 put-lines-requires c κs =
-    let updated = c .before .before .before .before .before .before .before .before .before .before .before .before .before .before .before in
-    let size = updated .before .before .before .before .before .before .before .before in
-    let start = size .before .before .before .before .before .before .before .before .before .before .before in
-    let a = start .args in
-    let b = take (size .smaller .result * 5) (now (a .boxes)) in
-    emitted-room _ (updated .before .before .before .before .before .before .before .settings .ensures) (a .state) (a .nth) (now (a .floats)) (now (a .counters)) b (now (a .out)) (now (a .work64)) (now (a .work32)) (now (a .text)) (updated .update .ensures) (c .before .before .enum-told2 .given .1) refl (updated .update .kept .1 .1 .1 .1 .1 .0) (start .pre)
+    let told = c .before .before in
+    let updated = after-update (after-out (told .before .before)) in
+    let set = after-settings updated in
+    let size = set .before in
+    let from = start·sized size in
+    let a = from .args in
+    emitted-room _ (set .settings .ensures) (a .state) (a .nth) (front size) (lent from) (now (a .text)) (updated .update .ensures) (told .enum-told2 .given .1) refl
+    (updated .update .kept .1 .1 .1 .1 .1 .0) (from .pre)
 
 returns-2 : tie.Need-returns-2
 returns-2 c = rw (c .enum-told .given .1)
@@ -41,18 +77,24 @@ returns-2 c = rw (c .enum-told .given .1)
 returns-3 : tie.Need-returns-3
 returns-3 c =
     let told = c .before .before .before .before .before in
-    let updated = told .before .before .before .before .before .before .before .before .before .before .before .before .before in
-    let size = updated .before .before .before .before .before .before .before .before in
-    let a = size .before .before .before .before .before .before .before .before .before .before .before .args in
-    let b = take (size .smaller .result * 5) (now (a .boxes)) in
-    let l = lentWith (now (a .floats)) (now (a .counters)) (now (a .out)) (now (a .work64)) (now (a .work32)) (now (a .text)) in
-    frame-worked (a .state) (a .nth) (now (a .boxes)) l (size .before .before .task .given .1) (size .smaller .ensures)
-    (work-accepted _ (updated .before .before .before .before .before .before .before .settings .ensures) (a .state) (a .nth) (now (a .floats)) (now (a .counters)) b (now (a .out)) (now (a .work64)) (now (a .work32)) (now (a .text)) (updated .update .ensures) (told .enum-told2 .given .1) refl refl (c .before .before .put-lines .ensures))
+    let updated = after-update (after-out (told .before .before)) in
+    let set = after-settings updated in
+    let size = set .before in
+    let from = start·sized size in
+    let a = from .args in
+    frame-worked (a .state) (a .nth) (now (a .boxes)) (record { memory = lent from; text = now (a .text) }) (size .before .before .task .given .1) (size .smaller .ensures)
+    (work-accepted _ (set .settings .ensures) (a .state) (a .nth) (front size) (lent from) (now (a .text)) (updated .update .ensures) (told .enum-told2 .given .1) refl refl
+    (c .before .before .put-lines .ensures))
+
+put-refused-requires-2 : tie.Need-put-refused-requires-2
+put-refused-requires-2 c κs = text-room _ _ (start (c .before .before .before .before .before) .pre)
 
 returns-4 : tie.Need-returns-4
 returns-4 c =
-    let a = c .before .before .before .before .before .before .before .before .before .before .before .before .before .before .before .args in
-    refused-worked (a .state) (a .nth) (now (a .boxes)) (now (a .floats)) (now (a .counters)) (now (a .out)) (now (a .work64)) (now (a .work32)) (now (a .text)) (c .before .before .before .before .before .before .task2 .given .1) (c .before .before .before .before .number2 .ensures) (c .before .before .put-refused2 .ensures)
+    let arm = c .before .before .before .before .before .before in
+    let a = start (arm .before .before) .args in
+    refused-worked (a .state) (a .nth) (now (a .boxes)) (now (a .floats)) (now (a .counters)) (now (a .out)) (now (a .work64)) (now (a .work32)) (now (a .text))
+    (arm .task2 .given .1) (c .before .before .before .before .number2 .ensures) (c .before .before .put-refused2 .ensures)
 
 pub work-task-spec : {M : Type 1} → statement M
 work-task-spec =
@@ -69,7 +111,7 @@ work-task-spec =
     (λ c. search needs)
     (λ c κs. search needs)
     (λ c. search needs)
-    (λ c κs. text-room _ _ (c .before .before .before .before .before .before .before .before .before .before .before .before .before .before .before .before .before .before .before .before .before .before .before .before .before .before .before .before .before .before .before .before .before .before .pre))
+    put-refused-requires
     (λ c. search needs)
     (λ c. search needs)
     (λ c. search needs)
@@ -80,7 +122,7 @@ work-task-spec =
     put-lines-requires
     (λ c. search needs)
     (λ c κs. search needs)
-    (λ c κs. text-room _ _ (c .before .before .before .before .before .before .before .before .before .before .before .before .pre))
+    put-refused-requires-2
     returns-2
     (λ c. search needs)
     (λ c. search needs)

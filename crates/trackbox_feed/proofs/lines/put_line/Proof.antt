@@ -1,6 +1,7 @@
--- `lines::put_line` meets its contract: a line has room in 87 bytes. Assumes nothing.
+-- `lines::put_line` meets its contract: a line has room in LINE_BYTES bytes. Assumes nothing.
 use native.Mathlib.Omega.{arith}
 use borrow.Author.Needs.{needs}
+use Rattle.records.specs.Line.{lineBytes}
 use Rattle.trackbox_feed.proofs.LineLaws.{line-room, never-short, count-is, put-within}
 use Rattle.trackbox_feed.proofs.lines.put_line.Statement.{statement}
 use Rattle.trackbox_feed.proofs.lines.put_line.Tie as tie
@@ -8,19 +9,21 @@ use Rattle.trackbox_feed.proofs.lines.put_line.Tie as tie
 returns : tie.Need-returns
 returns c =
     let start = c .before .before .before .before .before .before .before in
-    absurd (never-short _ _ _ 87 (start .pre) (line-room (start .args .t)) _ _ (c .before .before .before .before .write-line .ensures) (c .enum-told .given .1))
+    absurd (never-short _ _ _ lineBytes (start .pre) (line-room (start .args .t)) _ _ (c .before .before .before .before .write-line .ensures) (c .enum-told .given .1))
 
 add-result : tie.Need-add-result
 add-result c =
     let start = c .before .before .before .before .before .before .before .before in
-    omega (arith, start .pre, line-room (start .args .t), count-is _ _ _ 87 (start .pre) (line-room (start .args .t)) _ _ (c .before .before .before .before .before .write-line .ensures) (c .before .n .given .1))
+    let wrote = c .before .before .before .before .before .write-line .ensures in
+    let room = line-room (start .args .t) in
+    omega (arith, start .pre, room, count-is _ _ _ lineBytes (start .pre) room _ _ wrote (c .before .n .given .1))
 
 returns-2 : tie.Need-returns-2
 returns-2 c =
     let start = c .before .before .before .before .before .before .before .before in
     let wrote = c .before .before .before .before .before .write-line .ensures in (
-      put-within _ _ _ 87 (start .pre) (line-room (start .args .t)) _ _ wrote (c .before .n .given .1),
-      omega (arith, line-room (start .args .t), count-is _ _ _ 87 (start .pre) (line-room (start .args .t)) _ _ wrote (c .before .n .given .1)),
+      put-within _ _ _ lineBytes (start .pre) (line-room (start .args .t)) _ _ wrote (c .before .n .given .1),
+      omega (arith, line-room (start .args .t), count-is _ _ _ lineBytes (start .pre) (line-room (start .args .t)) _ _ wrote (c .before .n .given .1)),
     )
 
 pub put-line-spec : {M : Type 1} → statement M

@@ -19,7 +19,10 @@ put-line-requires c κs =
 loop-again : tie.Need-loop-again Inv-loop μ-loop
 loop-again c =
     let wrote = c .before .before .put-line .ensures in
-    lining-on (c .before .before .before .before .before .before .loop .inv) (c .before .before .before .before .before .loop-test .taken) (c .before .before .before .before .before .before .before .before .before .pre .1) (c .before .before .before .before .track .ensures) (wrote .0) (wrote .1)
+    let read = c .before .before .before .before in
+    let test = read .before in
+    let loop = test .before in
+    lining-on (loop .loop .inv) (test .loop-test .taken) (loop .before .before .before .pre .1) (read .track .ensures) (wrote .0) (wrote .1)
 
 pub put-lines-spec : {M : Type 1} → statement M
 put-lines-spec =

@@ -1,6 +1,6 @@
 -- `calls::read` reads no more than the buffer holds. The loop's invariant: the buffer keeps its length, and so many of its bytes are read at most. The measure is the room that is left. Assumes nothing.
 use mathlib.Core.Path.{_≡_, refl, _∙_}
-use Prim.Native.Nat.{ℕ, _-_, _≤_}
+use Prim.Native.Nat.{_-_, _≤_}
 use native.Mathlib.Omega.{arith}
 use lib.ListN.{length}
 use borrow.Author.Needs.{needs}
@@ -15,35 +15,52 @@ Inv-loop input₀ size n₀ input n = (length input ≡ size) × (n ≤ size)
 abbrev μ-loop : tie.MeasureT-loop
 μ-loop input₀ size n₀ input n = size - n
 
+-- The place where the loop begins, from the call that reads.
+abbrev at-loop : tie.After-read-some Inv-loop μ-loop → tie.At-loop Inv-loop μ-loop
+at-loop c = c .before .before .before
+
 same-length : tie.Need-same-length Inv-loop μ-loop
-same-length c = same-len-mid (c .before .before .before .before .before .before .before .loop .n) (length (c .before .before .before .before .before .before .before .loop .input) - c .before .before .before .before .before .before .before .loop .n) (c .before .before .before .before .before .before .before .loop .input) (c .before .before .before .before .read-some .last .0) (c .before .before .before .before .read-some .kept .0) ∙ c .before .before .before .before .before .before .before .loop .inv .0
+same-length c =
+    let call = c .before .before .before .before in
+    let loop = at-loop call .loop in
+    same-len-mid (loop .n) (length (loop .input) - loop .n) (loop .input) (call .read-some .last .0) (call .read-some .kept .0) ∙ loop .inv .0
 
 returns : tie.Need-returns Inv-loop μ-loop
 returns c = tt
 
 same-length-2 : tie.Need-same-length-2 Inv-loop μ-loop
-same-length-2 c = same-len-mid (c .before .before .before .before .before .before .before .before .before .loop .n) (length (c .before .before .before .before .before .before .before .before .before .loop .input) - c .before .before .before .before .before .before .before .before .before .loop .n) (c .before .before .before .before .before .before .before .before .before .loop .input) (c .before .before .before .before .before .before .read-some .last .0) (c .before .before .before .before .before .before .read-some .kept .0) ∙ c .before .before .before .before .before .before .before .before .before .loop .inv .0
+same-length-2 c =
+    let call = c .before .before .before .before .before .before in
+    let loop = at-loop call .loop in
+    same-len-mid (loop .n) (length (loop .input) - loop .n) (loop .input) (call .read-some .last .0) (call .read-some .kept .0) ∙ loop .inv .0
 
 returns-2 : tie.Need-returns-2 Inv-loop μ-loop
-returns-2 c = c .before .before .before .before .before .before .before .before .before .loop .inv .1
+returns-2 c = at-loop (c .before .before .before .before .before .before) .loop .inv .1
 
 add-n : tie.Need-add-n Inv-loop μ-loop
 add-n c =
-    let low = read-within (c .before .before .before .before .before .before .before .before .before .loop .n) (c .before .before .before .before .before .before .before .before .before .loop .input) (c .before .before .before .before .before .before .read-some .result) (omega (arith, c .before .before .before .before .before .before .before .before .before .loop .inv .0, c .before .before .before .before .before .before .before .before .before .loop .inv .1)) (c .before .before .more .given .1) (c .before .before .before .before .before .before .read-some .ensures) in
-    let z = c .before .before .before .before .before .before .before .before .before .loop .inv .0 in
-    record { fits = omega (arith, low, z, c .before .before .before .before .before .before .before .before .before .before .before .good .0 .0) }
+    let call = c .before .before .before .before .before .before in
+    let loop = at-loop call .loop in
+    let begun : loop .n ≤ length (loop .input) = omega (arith, loop .inv .0, loop .inv .1) in
+    let low = read-within (loop .n) (loop .input) (call .read-some .result) begun (c .before .before .more .given .1) (call .read-some .ensures) in
+    record { fits = omega (arith, low, loop .inv .0, at-loop call .before .before .good .0 .0) }
 
 loop-less : tie.Need-loop-less Inv-loop μ-loop
 loop-less c =
-    let low = read-within (c .before .before .before .before .before .before .before .before .before .loop .n) (c .before .before .before .before .before .before .before .before .before .loop .input) (c .before .before .before .before .before .before .read-some .result) (omega (arith, c .before .before .before .before .before .before .before .before .before .loop .inv .0, c .before .before .before .before .before .before .before .before .before .loop .inv .1)) (c .before .before .more .given .1) (c .before .before .before .before .before .before .read-some .ensures) in
-    let z = c .before .before .before .before .before .before .before .before .before .loop .inv .0 in
-    omega (arith, low, z, c .if1 .left, c .before .before .before .before .before .before .before .before .loop-test .taken)
+    let call = c .before .before .before .before .before .before in
+    let loop = at-loop call .loop in
+    let begun : loop .n ≤ length (loop .input) = omega (arith, loop .inv .0, loop .inv .1) in
+    let low = read-within (loop .n) (loop .input) (call .read-some .result) begun (c .before .before .more .given .1) (call .read-some .ensures) in
+    omega (arith, low, loop .inv .0, c .if1 .left, call .before .before .loop-test .taken)
 
 loop-again : tie.Need-loop-again Inv-loop μ-loop
 loop-again c =
-    let low = read-within (c .before .before .before .before .before .before .before .before .before .loop .n) (c .before .before .before .before .before .before .before .before .before .loop .input) (c .before .before .before .before .before .before .read-some .result) (omega (arith, c .before .before .before .before .before .before .before .before .before .loop .inv .0, c .before .before .before .before .before .before .before .before .before .loop .inv .1)) (c .before .before .more .given .1) (c .before .before .before .before .before .before .read-some .ensures) in
-    let z = c .before .before .before .before .before .before .before .before .before .loop .inv .0 in
-    (same-len-mid (c .before .before .before .before .before .before .before .before .before .loop .n) (length (c .before .before .before .before .before .before .before .before .before .loop .input) - c .before .before .before .before .before .before .before .before .before .loop .n) (c .before .before .before .before .before .before .before .before .before .loop .input) (c .before .before .before .before .before .before .read-some .last .0) (c .before .before .before .before .before .before .read-some .kept .0) ∙ z, omega (arith, low, z))
+    let call = c .before .before .before .before .before .before in
+    let loop = at-loop call .loop in
+    let begun : loop .n ≤ length (loop .input) = omega (arith, loop .inv .0, loop .inv .1) in
+    let low = read-within (loop .n) (loop .input) (call .read-some .result) begun (c .before .before .more .given .1) (call .read-some .ensures) in
+    let kept = same-len-mid (loop .n) (length (loop .input) - loop .n) (loop .input) (call .read-some .last .0) (call .read-some .kept .0) in
+    (kept ∙ loop .inv .0, omega (arith, low, loop .inv .0))
 
 pub read-spec : {M : Type 1} → statement M
 read-spec =

@@ -5,13 +5,13 @@ use Rattle.trackbox_io.proofs.progress.answered.Statement.{statement}
 use Rattle.trackbox_io.proofs.progress.answered.Tie as tie
 
 returns : tie.Need-returns
-returns c = taken-so _ _ (c .before .before .before .before .fed .given .1) (c .before .before .later .ensures) (c .before .behind .ensures) (c .known .ensures)
+returns c = taken-so _ _ (c .before .before .before .fed .given .1) (c .before .later .ensures) (c .known .ensures)
 
 returns-2 : tie.Need-returns-2
-returns-2 c = again-so _ _ (c .before .before .before .fed2 .given .1) (c .before .behind2 .ensures) (c .known2 .ensures)
+returns-2 c = again-so _ _ (c .before .before .fed2 .given .1) (c .known2 .ensures)
 
 returns-3 : tie.Need-returns-3
-returns-3 c = ended-so _ _ (c .before .before .before .fed3 .given .1) (c .before .behind3 .ensures) (c .known3 .ensures)
+returns-3 c = ended-so _ _ (c .before .before .fed3 .given .1) (c .known3 .ensures)
 
 returns-4 : tie.Need-returns-4
 returns-4 c = short-so _ _ (c .before .enum-told .given .1) (c .stopped .ensures)
@@ -22,14 +22,11 @@ answered-spec =
     (tie.spec
     (λ c. search needs)
     (λ c κs. search needs)
-    (λ c κs. search needs)
-    (λ c κs. search needs)
+    (λ c κs. c .before .before .before .before .before .pre)
     (λ c. search needs)
-    (λ c κs. search needs)
-    (λ c κs. search needs)
+    (λ c κs. c .before .before .before .before .pre)
     (λ c. search needs)
-    (λ c κs. search needs)
-    (λ c κs. search needs)
+    (λ c κs. c .before .before .before .before .pre)
     (λ c. search needs)
     (λ c κs. search needs)
     returns

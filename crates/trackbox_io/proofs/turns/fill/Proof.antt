@@ -12,7 +12,10 @@ slice-aggregate-read : tie.Need-slice-aggregate-read
 slice-aggregate-read c = sym (length-take-le _ _ (omega (arith, c .before .if1 .taken)))
 
 returns : tie.Need-returns
-returns c = front-within (c .before .before .before .before .before .before .args .most) (now (c .before .before .before .before .before .before .args .input)) (c .before .before .read .result) (c .before .before .read .ensures)
+returns c =
+    let call = c .before .before in
+    let a = call .before .before .before .before .args in
+    front-within (a .most) (now (a .input)) (call .read .result) (call .read .ensures)
 
 pub fill-spec : {M : Type 1} → statement M
 fill-spec = tie.close (tie.spec (λ c. search needs) slice-aggregate-read (λ c κs. tt) (λ c. search needs) returns (λ c κs. tt) (λ c. search needs) (λ c. c .before .before .read2 .ensures))

@@ -4,53 +4,97 @@ use native.Mathlib.Omega.{arith}
 use lib.Seq.{length-take-le}
 use borrow.Author.Needs.{needs}
 use denote.Ref.{now}
+use Prim.Native.Nat.{_*_, _≤_}
+use lib.ListN.{length}
 use Rattle.trackbox_io.proofs.TurnLaws.{not-handed, handed}
 use Rattle.trackbox_io.proofs.turns.hand.Statement.{statement}
 use Rattle.trackbox_io.proofs.turns.hand.Tie as tie
 
+-- The places that the answers go back to: the start; what `take` is called with; the call, from where what it was lent has come back.
+abbrev start : tie.After-struct-known → tie.Start
+start c = c .before .before .before .before .before .before .before .before .before
+
+abbrev start·needed : tie.After-needed → tie.Start
+start·needed c = start (c .before .before)
+
+abbrev after-item : tie.After-take-arg4 → tie.After-item
+after-item c = c .before .before .before .before
+
+abbrev after-needed : tie.After-take-arg4 → tie.After-needed
+after-needed c = after-item c .before .before
+
+abbrev after-out : tie.After-slice-known14 → tie.After-out
+after-out c = c .before .before .before .before .before .before .before
+
+abbrev after-take : tie.After-out → tie.After-take
+after-take c = c .before .before .before .before .before .before .before
+
+-- as much is lent as there is
+doubles-fit : (c : tie.After-needed) → c .needed .result ≤ length (now (start·needed c .args .work64))
+doubles-fit c = omega (arith, c .needed .ensures .doubles .bound, start·needed c .pre .1 .doubles)
+
+singles-fit : (c : tie.After-needed) → 4 * c .needed .result ≤ length (now (start·needed c .args .work32))
+singles-fit c = omega (arith, c .needed .ensures .singles .bound, start·needed c .pre .1 .singles)
+
+used-fits : (c : tie.Start) → c .args .p .used ≤ length (now (c .args .text))
+used-fits c = omega (arith, c .pre .0 .used, c .pre .1 .text)
+
 mul-cells32 : tie.Need-mul-cells32
 mul-cells32 c = record { fits = omega (arith, c .needed .ensures .doubles .bound) }
 
+item-requires : tie.Need-item-requires
+item-requires c κs = let from = start·needed (c .before) in omega (arith, from .pre .0 .got, from .pre .1 .input)
+
 slice-relend-prefix-take : tie.Need-slice-relend-prefix-take
-slice-relend-prefix-take c = omega (arith, c .before .before .before .before .before .before .needed .ensures .doubles .bound, c .before .before .before .before .before .before .before .before .before .before .before .before .before .before .before .before .before .pre .1 .doubles)
+slice-relend-prefix-take c = doubles-fit (after-needed c)
 
 slice-aggregate-take : tie.Need-slice-aggregate-take
-slice-aggregate-take c = sym (length-take-le _ _ (omega (arith, c .before .before .before .before .before .before .before .needed .ensures .doubles .bound, c .before .before .before .before .before .before .before .before .before .before .before .before .before .before .before .before .before .before .pre .1 .doubles)))
+slice-aggregate-take c = sym (length-take-le _ _ (doubles-fit (after-needed (c .before))))
 
 slice-relend-prefix-take-2 : tie.Need-slice-relend-prefix-take-2
-slice-relend-prefix-take-2 c = omega (arith, c .before .before .before .before .before .before .before .needed .ensures .singles .bound, c .before .before .before .before .before .before .before .before .before .before .before .before .before .before .before .before .before .before .pre .1 .singles)
+slice-relend-prefix-take-2 c = singles-fit (after-needed (c .before))
 
 slice-aggregate-take-2 : tie.Need-slice-aggregate-take-2
-slice-aggregate-take-2 c = sym (length-take-le _ _ (omega (arith, c .before .before .before .before .before .before .before .before .needed .ensures .singles .bound, c .before .before .before .before .before .before .before .before .before .before .before .before .before .before .before .before .before .before .before .pre .1 .singles)))
+slice-aggregate-take-2 c = sym (length-take-le _ _ (singles-fit (after-needed (c .before .before))))
+
+sub-take : tie.Need-sub-take
+sub-take c = omega (arith, used-fits (start·needed (after-needed (c .before .before))))
+
+part-take-start : tie.Need-part-take-start
+part-take-start c = omega (arith, used-fits (start·needed (after-needed (c .before .before))))
+
+answered-requires : tie.Need-answered-requires
+answered-requires c κs = used-fits (start·needed (after-needed (after-take (after-out c) .before .before .before .before)))
 
 returns-2 : tie.Need-returns-2
 returns-2 c =
-    let take = c .before .before .before .before .before .before .before .before .before .before .before .before .before .before .before in
-    let item = take .before .before .before .before .before .before .before .before in
+    let take = after-take (after-out (c .before)) in
+    let item = after-item (take .before .before .before .before) in
     let needed = item .before .before in
-    let a = needed .before .before .before .before .before .before .before .before .before .before .before .args in
+    let a = start·needed needed .args in
     let last = take .take .last .1 .1 in
     handed (a .p) (now (a .input)) (now (a .text)) (now (a .floats)) (now (a .counters)) (now (a .boxes)) (now (a .out)) (now (a .work64)) (now (a .work32))
     (last .1 .1 .1 .1 .1 .1 .0) (last .0) (last .1 .0) (last .1 .1 .0) (last .1 .1 .1 .0) (last .1 .1 .1 .1 .0) (last .1 .1 .1 .1 .1 .0) _ _
-    (needed .needed .result) (item .item .result) (take .take .result) (needed .before .if1 .left) (needed .needed .ensures) (item .item .ensures) (take .take .ensures) (c .answered .ensures)
+    (needed .needed .result) (item .item .result) (take .take .result)
+    (needed .before .if1 .left) (needed .needed .ensures) (item .item .ensures) (take .take .ensures) (c .answered .ensures)
 
 pub hand-spec : {M : Type 1} → statement M
 hand-spec =
     tie.close
     (tie.spec
-    (λ c. not-handed (c .before .before .before .before .before .before .before .before .before .before .args .p) _ (c .if1 .taken))
+    (λ c. not-handed (start (c .before) .args .p) _ (c .if1 .taken))
     (λ c κs. search needs)
     mul-cells32
-    (λ c κs. omega (arith, c .before .before .before .before .before .before .before .before .before .before .before .before .pre .0 .got, c .before .before .before .before .before .before .before .before .before .before .before .before .pre .1 .input))
+    item-requires
     slice-relend-prefix-take
     slice-aggregate-take
     slice-relend-prefix-take-2
     slice-aggregate-take-2
-    (λ c. omega (arith, c .before .before .before .before .before .before .before .before .before .before .before .before .before .before .before .before .before .before .before .pre .0 .used, c .before .before .before .before .before .before .before .before .before .before .before .before .before .before .before .before .before .before .before .pre .1 .text))
-    (λ c. omega (arith, c .before .before .before .before .before .before .before .before .before .before .before .before .before .before .before .before .before .before .before .pre .0 .used, c .before .before .before .before .before .before .before .before .before .before .before .before .before .before .before .before .before .before .before .pre .1 .text))
+    sub-take
+    part-take-start
     (λ c. search needs)
     (λ c κs. tt)
-    (λ c κs. omega (arith, c .before .before .before .before .before .before .before .before .before .before .before .before .before .before .before .before .before .before .before .before .before .before .before .before .before .before .before .before .before .before .before .before .before .before .before .pre .0 .used, c .before .before .before .before .before .before .before .before .before .before .before .before .before .before .before .before .before .before .before .before .before .before .before .before .before .before .before .before .before .before .before .before .before .before .before .pre .1 .text))
+    answered-requires
     (λ c. search needs)
     (λ c. search needs)
     (λ c. search needs)

@@ -1,13 +1,14 @@
 -- `turns::run` is safe and ends, and no more is left than there was. The loop's invariant: the arrays keep their lengths, what was read and what waits lies in them, and what was handed to the output and
 -- waits for it is what trackbox prints of the bytes that were read (specs/Printed.antt). The measure is the count of turns that is left. Assumes nothing.
 use mathlib.Core.Path.{refl, sym, subst, _∙_}
-use Prim.Native.Nat.{ℕ}
+use Prim.Native.Nat.{ℕ, _<_}
 use native.Mathlib.Omega.{arith}
 use lib.ListN.{replicate, length-replicate}
 use lib.Ieee.{binary32, binary64, ofBits}
 use Rattle.trackbox_io.specs.declared.progress.Progress.{Progress}
-use Rattle.trackbox_io.specs.Turn.{Arrays, arrays, Sizes}
-use Rattle.trackbox_io.specs.Printed.{start-along}
+use Rattle.trackbox_feed.specs.Trackbox.{lentFloats, lentCounters, lentBoxes, lentOutput, lentDoubles, lentSingles}
+use Rattle.trackbox_io.specs.Turn.{textBytes, inputBytes, Arrays, arrays, Sizes}
+use Rattle.trackbox_io.proofs.Filling.{start-along}
 use Rattle.trackbox_io.proofs.TurnLaws.{Running, runs-on, turns-left, goes-on, ends-leaves}
 use Rattle.trackbox_io.proofs.turns.run.Statement.{statement}
 use Rattle.trackbox_io.proofs.turns.run.Tie as tie
@@ -19,38 +20,56 @@ Inv-loop bytes input₀ text₀ floats₀ counters₀ boxes₀ out₀ work64₀ 
 abbrev μ-loop : tie.MeasureT-loop
 μ-loop bytes input₀ text₀ floats₀ counters₀ boxes₀ out₀ work64₀ work32₀ now₀ turns₀ input text floats counters boxes out work64 work32 now turns = turns
 
+-- The places that the answers go back to: the turn, from where what it was lent has come back; the loop's test and its begin, from the turn's arguments.
+abbrev after-turn : tie.After-work322 Inv-loop μ-loop → tie.After-turn Inv-loop μ-loop
+after-turn c = c .before .before .before .before .before .before .before .before
+
+abbrev then1 : tie.After-work32 Inv-loop μ-loop → tie.Then1 Inv-loop μ-loop
+then1 c = c .before .before .before .before .before .before .before .before
+
+abbrev at-loop : tie.After-work32 Inv-loop μ-loop → tie.At-loop Inv-loop μ-loop
+at-loop c = then1 c .before .before
+
 abbrev zeros : Arrays
 zeros =
-    arrays (replicate 65520 0) (replicate 65536 0) (replicate 1536 (ofBits binary32 0)) (replicate 256 0) (replicate 320 (ofBits binary32 0)) (replicate 2048 0) (replicate 4096 (ofBits binary64 0)) (replicate 16384 (ofBits binary32 0))
+    arrays (replicate inputBytes 0) (replicate textBytes 0) (replicate lentFloats (ofBits binary32 0)) (replicate lentCounters 0) (replicate lentBoxes (ofBits binary32 0))
+    (replicate lentOutput 0) (replicate lentDoubles (ofBits binary64 0)) (replicate lentSingles (ofBits binary32 0))
 
 zeros-sized : Sizes zeros
 zeros-sized = record {
-  input = length-replicate {A = ℕ} 65520 0;
-  text = length-replicate {A = ℕ} 65536 0;
-  floats = length-replicate 1536 (ofBits binary32 0);
-  counters = length-replicate {A = ℕ} 256 0;
-  boxes = length-replicate 320 (ofBits binary32 0);
-  output = length-replicate {A = ℕ} 2048 0;
-  doubles = length-replicate 4096 (ofBits binary64 0);
-  singles = length-replicate 16384 (ofBits binary32 0);
+  input = length-replicate {A = ℕ} inputBytes 0;
+  text = length-replicate {A = ℕ} textBytes 0;
+  floats = length-replicate lentFloats (ofBits binary32 0);
+  counters = length-replicate {A = ℕ} lentCounters 0;
+  boxes = length-replicate lentBoxes (ofBits binary32 0);
+  output = length-replicate {A = ℕ} lentOutput 0;
+  doubles = length-replicate lentDoubles (ofBits binary64 0);
+  singles = length-replicate lentSingles (ofBits binary32 0);
 }
 
 loop-holds : tie.Need-loop-holds Inv-loop μ-loop
 loop-holds c =
-    subst (λ (p : Progress). Running p zeros) (sym (c .start .ensures))
-    (record { sizes = zeros-sized; stands = record { used = omega arith; got = omega arith }; along = start-along (c .before .args .bytes) zeros refl (zeros-sized .boxes) })
+    subst (λ (p : Progress). Running p zeros) (sym (c .start .ensures)) (record {
+      sizes = zeros-sized;
+      stands = record { used = omega arith; got = omega arith };
+      along = start-along (c .before .args .bytes) zeros refl (zeros-sized .boxes);
+    })
+
+-- the loop goes on, so that a turn is left
+turn-left : (c : tie.After-work32 Inv-loop μ-loop) → 0 < at-loop c .loop .turns
+turn-left c = turns-left (at-loop c .loop .turns) (at-loop c .loop .now .going) (then1 c .if1 .taken)
 
 sub-turns : tie.Need-sub-turns Inv-loop μ-loop
-sub-turns c = omega (arith, turns-left (c .before .before .before .before .before .before .before .before .before .before .before .before .before .before .before .before .before .before .before .loop .turns) (c .before .before .before .before .before .before .before .before .before .before .before .before .before .before .before .before .before .before .before .loop .now .going) (c .before .before .before .before .before .before .before .before .before .before .before .before .before .before .before .before .before .if1 .taken))
+sub-turns c = omega (arith, turn-left (after-turn c .before))
 
 loop-less : tie.Need-loop-less Inv-loop μ-loop
-loop-less c = omega (arith, turns-left (c .before .before .before .before .before .before .before .before .before .before .before .before .before .before .before .before .before .before .before .loop .turns) (c .before .before .before .before .before .before .before .before .before .before .before .before .before .before .before .before .before .before .before .loop .now .going) (c .before .before .before .before .before .before .before .before .before .before .before .before .before .before .before .before .before .if1 .taken))
+loop-less c = omega (arith, turn-left (after-turn c .before))
 
 loop-again : tie.Need-loop-again Inv-loop μ-loop
 loop-again c =
-    let turn = c .before .before .before .before .before .before .before .before in
-    let test = turn .before .before .before .before .before .before .before .before .before in
-    let loop = test .before .before .loop in
+    let turn = after-turn c in
+    let test = then1 (turn .before) in
+    let loop = at-loop (turn .before) .loop in
     let size = loop .inv .sizes in
     runs-on _ _ _ _ (record {
       input = turn .turn .kept .1 .0 ∙ size .input;
@@ -76,8 +95,8 @@ run-spec =
     (λ c. sym (c .before .before .before .before .before .before .before .loop .inv .sizes .boxes))
     (λ c. sym (c .before .before .before .before .before .before .before .before .loop .inv .sizes .output))
     (λ c. sym (c .before .before .before .before .before .before .before .before .before .loop .inv .sizes .doubles))
-    (λ c. sym (c .before .before .before .before .before .before .before .before .before .before .loop .inv .sizes .singles))
-    (λ c κs. (c .before .before .before .before .before .before .before .before .before .before .loop .inv .stands, c .before .before .before .before .before .before .before .before .before .before .loop .inv .sizes))
+    (λ c. sym (at-loop c .loop .inv .sizes .singles))
+    (λ c κs. (at-loop c .loop .inv .stands, at-loop c .loop .inv .sizes))
     sub-turns
     loop-less
     loop-again

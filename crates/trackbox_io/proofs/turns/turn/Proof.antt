@@ -6,13 +6,29 @@ use Rattle.trackbox_io.proofs.TurnLaws.{stands-empties, stands-fills}
 use Rattle.trackbox_io.proofs.turns.turn.Statement.{statement}
 use Rattle.trackbox_io.proofs.turns.turn.Tie as tie
 
+-- The places that the answers go back to: the start; the read, from the arguments of `hand`; its call, from where what it was lent has come back.
+abbrev start : tie.After-empty-arg → tie.Start
+start c = c .before .before .before .before .before .before .before .before .before
+
+abbrev after-hand-arg : tie.After-hand-arg8 → tie.After-hand-arg
+after-hand-arg c = c .before .before .before .before .before .before .before
+
+abbrev after-read-on : tie.After-hand-arg8 → tie.After-read-on
+after-read-on c = after-hand-arg c .before .before .before
+
+abbrev after-boxes : tie.After-slice-known16 → tie.After-boxes
+after-boxes c = c .before .before .before .before .before .before .before
+
+abbrev after-hand : tie.After-boxes → tie.After-hand
+after-hand c = c .before .before .before .before .before .before .before
+
 hand-requires : tie.Need-hand-requires
 hand-requires c κs =
-    let read = c .before .before .before .before .before .before .before .before .before .before in
+    let read = after-read-on c in
     let empty = read .before .before in
-    let start = empty .before .before .before .before .before .before .before .before .before .before in
-    let size = start .pre .1 in (
-      stands-fills _ _ _ _ (size .input) (stands-empties _ _ _ (start .pre .0) (empty .empty .ensures)) (read .read-on .ensures),
+    let from = start (empty .before) in
+    let size = from .pre .1 in (
+      stands-fills _ _ _ _ (size .input) (stands-empties _ _ _ (from .pre .0) (empty .empty .ensures)) (read .read-on .ensures),
       record {
         input = read .read-on .kept .1 .0 ∙ size .input;
         text = size .text;
@@ -27,21 +43,22 @@ hand-requires c κs =
 
 returns : tie.Need-returns
 returns c =
-    let read = c .before .before .before .before .before .before .before .before .before .before .before .before .before .before .before .before .before .before .before .before .before .before .before .before .before in
+    let hand = after-hand (after-boxes c) in
+    let read = after-read-on (hand .before) in
     let empty = read .before .before in
     record {
       flushed = empty .empty .result;
       ready = read .read-on .result;
       empties = empty .empty .ensures;
       fills = read .read-on .ensures;
-      hands = c .before .before .before .before .before .before .before .before .before .before .before .before .before .before .hand .ensures;
+      hands = hand .hand .ensures;
     }
 
 pub turn-spec : {M : Type 1} → statement M
 turn-spec =
     tie.close
     (tie.spec
-    (λ c κs. omega (arith, c .before .before .before .before .before .before .before .before .before .pre .0 .used, c .before .before .before .before .before .before .before .before .before .pre .1 .text))
+    (λ c κs. omega (arith, start c .pre .0 .used, start c .pre .1 .text))
     (λ c κs. tt)
     hand-requires
     (λ c. search needs)

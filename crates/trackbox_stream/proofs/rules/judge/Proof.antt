@@ -1,6 +1,6 @@
 -- `rules::judge` meets its contract: each return is the definition's case where the tests are as that return found them. Assumes nothing.
 use borrow.Author.Needs.{needs}
-use Rattle.trackbox_stream.specs.Laws.Cases.{ahead-low}
+use Rattle.trackbox_stream.proofs.Cases.{ahead-low}
 use Rattle.trackbox_stream.proofs.Returns.{back, far, later, full, same}
 use Rattle.trackbox_stream.proofs.rules.judge.Statement.{statement}
 use Rattle.trackbox_stream.proofs.rules.judge.Tie as tie
@@ -28,8 +28,12 @@ returns-4 c =
 
 returns-5 : tie.Need-returns-5
 returns-5 c =
-    let a = c .before .before .before .before .before .before .args in
-    same (a .state) _ (a .frame) (c .before .before .before .before .before .nth-after .ensures) (c .before .before .before .before .if1 .left) (c .before .before .before .if2 .left) (c .before .before .if3 .left) (c .before .if4 .left) _ (c .more .ensures)
+    let full = c .before in
+    let turn = full .before in
+    let far = turn .before in
+    let back = far .before in
+    let a = back .before .before .args in
+    same (a .state) _ (a .frame) (back .before .nth-after .ensures) (back .if1 .left) (far .if2 .left) (turn .if3 .left) (full .if4 .left) _ (c .more .ensures)
 
 pub judge-spec : {M : Type 1} → statement M
 judge-spec =

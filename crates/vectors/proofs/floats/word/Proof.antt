@@ -1,5 +1,4 @@
 -- `vectors::floats::word` meets its contract: the test is the definition's. Assumes nothing.
-use mathlib.Core.Path.{_∙_}
 use borrow.Author.Needs.{needs}
 use Rattle.vectors.specs.Floats.{word}
 use Rattle.vectors.proofs.floats.word.Statement.{statement}

@@ -1,22 +1,29 @@
--- `vectors::input::words` is safe and ends. The loop's invariant: `k` is at most the length, which a store does not change. The measure is what is left of the length. Assumes nothing.
-use mathlib.Core.Path.{_≡_}
-use Prim.Native.Nat.{_≤_, _-_}
+-- `vectors::input::words` meets its contract. The loop's invariant: before k, what is behind those given is `rest`. The measure is what is left of the length. Assumes nothing.
+use mathlib.Core.Path.{_≡_, refl}
+use Prim.Native.Nat.{_-_}
 use native.Mathlib.Omega.{arith}
-use lib.ListN.{length, length-set}
+use lib.ListN.{length}
 use borrow.Author.Needs.{needs}
+use Rattle.vectors.proofs.Reading.{Reading, read-start, read-on, read-end}
 use Rattle.vectors.proofs.input.words.Statement.{statement}
 use Rattle.vectors.proofs.input.words.Tie as tie
 
 abbrev Inv-loop : tie.InvT-loop
-Inv-loop out₀ k₀ k-end out k = (k ≤ k-end) × (k-end ≡ length out) × (length out ≡ length out₀)
+Inv-loop given rest out₀ k₀ k-end out k = Reading 0 rest given out₀ k out × (k-end ≡ length out₀)
 
 abbrev μ-loop : tie.MeasureT-loop
-μ-loop out₀ k₀ k-end out k = k-end - k
+μ-loop given rest out₀ k₀ k-end out k = k-end - k
+
+loop-again : tie.Need-loop-again Inv-loop μ-loop
+loop-again c =
+    let inv = c .before .before .loop .inv in
+    (read-on (inv .0) (omega (arith, c .before .loop-test .taken, inv .0 .same, inv .1)) (c .count-or .ensures), inv .1)
 
 pub words-spec : {M : Type 1} → statement M
 words-spec =
     tie.close
     (tie.spec Inv-loop μ-loop
-    (λ c. omega arith) (λ c κs. search needs)
-    (λ c. omega arith) (λ c. omega arith) (λ c. omega arith) (λ c. omega arith)
-    (λ c. simp length-set (omega arith)) (λ c. search needs) (λ c. search needs))
+    (λ c. (read-start, refl)) (λ c κs. search needs)
+    (λ c. omega arith) (λ c. omega arith) (λ c. omega arith) (λ c. omega arith) (λ c. omega arith)
+    loop-again (λ c. c .before .loop .inv .0 .same)
+    (λ c. read-end (c .before .loop .inv .0) (omega (arith, c .loop-test .left, c .before .loop .inv .0 .same, c .before .loop .inv .1))))

@@ -1,7 +1,7 @@
 -- `KalmanBoxTracker::correct` meets its contract: what the filter answered decides the case of the definition. Assumes nothing.
 use mathlib.Core.Path.{sym, ap, _∙_}
 use borrow.Author.Needs.{needs}
-use Rattle.strack.specs.KalmanFilter.{filterAnswer}
+use Rattle.strack_filter.specs.KalmanFilter.{filterAnswer}
 use Rattle.strack.specs.Strack.{hit, update}
 use Rattle.strack.proofs.strack.KalmanBoxTracker.correct.Statement.{statement}
 use Rattle.strack.proofs.strack.KalmanBoxTracker.correct.Tie as tie

@@ -1,0 +1,2 @@
+-- Laws has what upper layers want.
+pub mod Laws
