@@ -5,7 +5,7 @@
  * the payload of a NaN are left open. CHANGELOG.md says what each version changed for callers.
  *
  * ---- What the library does not do ----
- * It allocates nothing, keeps nothing between calls and has no data of its own: 33 kB of code, no variables. Every call
+ * It allocates nothing, keeps nothing between calls and has no data of its own: 34 kB of code, no variables. Every call
  * is reentrant, from any thread, and two trackers are two tables. No call fails but by its refusal number, overflows,
  * runs forever, or touches memory that it was not lent. Of other code it calls memset alone.
  *

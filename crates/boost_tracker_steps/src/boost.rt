@@ -85,7 +85,7 @@ fn dlo_settings(settings: Settings) -> DloSettings
     }
 }
 
-fn dlo(
+fn dlo_with(
     settings: Settings,
     floats: &[f32],
     counters: &[u64],
@@ -124,6 +124,38 @@ fn dlo(
         );
     }
     Verdict::Accepted
+}
+
+// The times since update are in a list of its own.
+fn dlo(
+    settings: Settings,
+    floats: &[f32],
+    counters: &[u64],
+    held: usize,
+    corners: &[f32],
+    trks: &[f32],
+    confs: &[f32],
+    work: &mut [f32],
+    scores: &mut [f32],
+) -> Verdict
+    requires sizes { ⌜ Scored held (length (now floats)) (length (now counters)) (length (now corners)) (length (now trks)) (length (now confs)) (length (now work)) (length (now scores)) ⌝ }
+    requires low { ⌜ SinceLow held (tracks (now floats) (now counters) held) ⌝ }
+    ensures { λ r. ⌜ callWith r (now (scores .exit))
+        ≡ accepted (Update.afterDlo settings (now (corners .entry)) (now (trks .entry)) (now (confs .entry)) (tracks (now (floats .entry)) (now (counters .entry)) held) (now (scores .entry))) ⌝ }
+{
+    let mut times = [0u32; 255];
+    dlo_with(
+        settings,
+        floats,
+        counters,
+        held,
+        corners,
+        trks,
+        confs,
+        &mut times[..held],
+        work,
+        scores,
+    )
 }
 
 fn duo(
@@ -178,7 +210,6 @@ pub(crate) fn boost(
         ≡ accepted (Update.afterDuo settings frame (now (corners .entry)) (tracks (now (floats .entry)) (now (counters .entry)) held)
         (Update.afterDlo settings (now (corners .entry)) (now (trks .entry)) (now (confs .entry)) (tracks (now (floats .entry)) (now (counters .entry)) held) (now (scores .entry)))) ⌝ }
 {
-    let mut times = [0u32; 255];
     let boosted = dlo(
         settings,
         floats,
@@ -187,7 +218,6 @@ pub(crate) fn boost(
         corners,
         trks,
         confs,
-        &mut times[..held],
         work,
         scores,
     );
