@@ -5,7 +5,7 @@
  * the payload of a NaN are left open. CHANGELOG.md says what each version changed for callers.
  *
  * ---- What the library does not do ----
- * It allocates nothing, keeps nothing between calls and has no data of its own: 34 kB of code, no variables. Every call
+ * It allocates nothing, keeps nothing between calls and has no data of its own: 35 kB of code, no variables. Every call
  * is reentrant, from any thread, and two trackers are two tables. No call fails but by its refusal number, overflows,
  * runs forever, or touches memory that it was not lent. Of other code it calls memset alone.
  *
@@ -63,9 +63,9 @@ extern "C" {
 /* ---- version ---- */
 #define BEDSIDE_VERSION_MAJOR 1
 #define BEDSIDE_VERSION_MINOR 0
-#define BEDSIDE_VERSION_PATCH 0
+#define BEDSIDE_VERSION_PATCH 1
 #define BEDSIDE_VERSION (BEDSIDE_VERSION_MAJOR * 10000 + BEDSIDE_VERSION_MINOR * 100 + BEDSIDE_VERSION_PATCH)
-#define BEDSIDE_VERSION_STRING "1.0.0"
+#define BEDSIDE_VERSION_STRING "1.0.1"
 
 /* ---- sizes ---- */
 #define BEDSIDE_PLACE_FLOATS 24       /* a place of the table */

@@ -1,9 +1,11 @@
-/* What include/bedside.h says of stack and floating-point environment, tried by tools/guarantee_check:
+/* What include/bedside.h and docs/LIMITS.md say of stack and floating-point environment, tried by tools/guarantee_check:
  *
- *     program update      the most bytes of stack that frames took
- *     program others      the most that any other call took
- *     program tiny        the refusal of a box of the width 1e-40
- *     program rounding    "same" or "other": a frame after fesetround(FE_UPWARD) beside one before
+ *     program update               the most bytes of stack that frames took
+ *     program others               the most that any other call took
+ *     program match_detections     what that call took on the direct path, and by lapjv
+ *     program linear_assignment    the same of this call
+ *     program tiny                 the refusal of a box of the width 1e-40
+ *     program rounding             "same" or "other": a frame after fesetround(FE_UPWARD) beside one before
  *
  * The stack is one of its own, painted before each call. */
 #include <fenv.h>
@@ -21,11 +23,13 @@ static uint8_t out[BEDSIDE_OUT_LEN(PLACES)];
 static double work64[BEDSIDE_WORK64_LEN(PLACES)], costs[CELLS];
 static float work32[BEDSIDE_WORK32_LEN(PLACES)];
 static float detections[4 * PLACES], corners[4 * PLACES], confidences[PLACES], cells[CELLS], result[CELLS];
+static const float *pairing = cells;
 static size_t list[4][PLACES];
 static bedside_settings settings;
 static bedside_state state;
 static size_t frame_boxes;
 static uint32_t refusal;
+static uint64_t turns;
 
 /* From 0 to below 1, the same in each run. */
 static float chance(void)
@@ -85,14 +89,18 @@ static void mh_dist_similarity(void)
 
 static void match_detections(void)
 {
-    refusal = bedside_match_detections(PLACES, PLACES, cells, CELLS, 0.3f, list[0], PLACES, list[1], PLACES, work64,
-                                       CELLS).refusal;
+    bedside_matched a = bedside_match_detections(PLACES, PLACES, pairing, CELLS, 0.3f, list[0], PLACES, list[1],
+                                                 PLACES, work64, CELLS);
+    refusal = a.refusal;
+    turns = a.turns;
 }
 
 static void linear_assignment(void)
 {
-    refusal = bedside_linear_assignment(PLACES, PLACES, cells, CELLS, cells, CELLS, 0.3f, list[0], PLACES, list[1],
-                                        PLACES, list[2], PLACES, list[3], PLACES, work64, CELLS).refusal;
+    bedside_assignment a = bedside_linear_assignment(PLACES, PLACES, pairing, CELLS, pairing, CELLS, 0.3f, list[0], PLACES,
+                                                     list[1], PLACES, list[2], PLACES, list[3], PLACES, work64, CELLS);
+    refusal = a.refusal;
+    turns = a.turns;
 }
 
 static void associate(void)
@@ -145,6 +153,24 @@ static size_t others(void)
     for (size_t k = 0; k < sizeof calls / sizeof calls[0]; k++)
         most = larger(most, taken(calls[k]));
     return most - taken(nothing);
+}
+
+/* A call on the direct path, of costs above the threshold on the diagonal alone, and one by lapjv, which has row turns. */
+static void paths(void (*f)(void))
+{
+    static float diagonal[CELLS];
+    for (size_t k = 0; k < PLACES; k++)
+        diagonal[k * PLACES + k] = 1.0f;
+    pairing = diagonal;
+    size_t directly = taken(f);
+    if (turns != 0)
+        directly = STACK;
+    pairing = cells;
+    size_t by_lapjv = taken(f);
+    if (turns == 0)
+        by_lapjv = STACK;
+    size_t own = taken(nothing);
+    printf("%zu %zu\n", directly - own, by_lapjv - own);
 }
 
 static void make_boxes(size_t n)
@@ -216,6 +242,10 @@ int main(int count, char **words)
         printf("%zu\n", frames());
     else if (strcmp(what, "others") == 0)
         printf("%zu\n", others());
+    else if (strcmp(what, "match_detections") == 0)
+        paths(match_detections);
+    else if (strcmp(what, "linear_assignment") == 0)
+        paths(linear_assignment);
     else if (strcmp(what, "tiny") == 0)
         tiny();
     else if (strcmp(what, "rounding") == 0)

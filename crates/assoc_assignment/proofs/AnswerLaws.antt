@@ -1,13 +1,18 @@
 -- What a verdict tells: the sides and the room of an accepted call. Assumes nothing.
 use mathlib.Core.Path.{_≡_}
+use mathlib.Core.List.{List}
 use mathlib.Core.Bool.{Bool, false, not, _||_}
 use Prim.Native.Nat.{ℕ, _*_, _≤_, max, min}
 use lib.Dec.{ltb, eqb}
+use lib.Ieee.{Float}
+use lib.ListN.{length}
 use borrow.Author.Tests.{ltb-false}
 use Rattle.laws.specs.Tests.{or-none}
 use Rattle.refusals.specs.declared.refusal.Verdict.the-variants.{Accepted}
 use Rattle.refusals.proofs.Laws.{passed, few-sides, same-size}
-use Rattle.assoc_matching.specs.Partners.{PartnerReady}
+use Rattle.assoc_matching.specs.Matching.{simple}
+use Rattle.assoc_matching.specs.Partners.{Sized, PartnerReady}
+use Rattle.assoc_matching.proofs.MatchLaws.{some-side}
 use Rattle.assoc_assignment.specs.Answers.{Room, assignmentShort, assignmentVerdict}
 use Rattle.assoc_assignment.specs.Private.{ListRoom, AssignmentReady}
 
@@ -45,6 +50,6 @@ assignment-ready boxes tracks ious costs room work e =
       room-work = enough .1;
     }
 
--- find_partners is asked what it accepts
-pub partners-asked : {boxes tracks ious costs rows : ℕ} {room : Room} {work : ℕ} → AssignmentReady boxes tracks ious costs room work → rows ≡ boxes → PartnerReady boxes tracks costs rows work
-partners-asked ready e = record { sides = record { few-rows = ready .few-rows; few-cols = ready .few-cols; long = ready .long-cost }; rows = e; room-work = ready .room-work }
+-- where the direct path is not open, lapjv_partners is asked what it accepts
+pub partners-asked : (cost : List Float) (n m : ℕ) (t : Float) {rows work : ℕ} → Sized n m (length cost) → simple cost n m t ≡ false → max n m * max n m ≤ work → rows ≡ n → PartnerReady n m (length cost) rows work
+partners-asked cost n m t sides closed room rows = record { sides = sides; rows = rows; some = some-side cost n m t closed; room-work = room }

@@ -1,7 +1,7 @@
 // linear_assignment of assoc.rs, without emb_cost: the pairs that stand, and the boxes and tracks that are left.
 ghost use mathlib.Core.Path.{_≡_};
 ghost use mathlib.Core.Bool.{false, not};
-ghost use Prim.Native.Nat.{_+_, _*_, _≤_, _<_};
+ghost use Prim.Native.Nat.{_+_, _*_, _≤_, _<_, max};
 ghost use lib.Dec.{ltb};
 ghost use lib.ListN.{length, getD};
 ghost use lib.Ieee.{le};
@@ -14,9 +14,12 @@ ghost use Rattle.assoc_matching.specs.Partners.{held, Sized, Clean, PairRoom, W
 ghost use Rattle.assoc_assignment.specs.declared.assignment.AssignmentAnswer.the-variants.{Assigned};
 ghost use Rattle.assoc_assignment.specs.Assignment.{validMatch, validated, linearAssignment};
 ghost use Rattle.assoc_assignment.specs.Answers.{listsWith, roomWith, lentWith, lentAfter, assignmentCounts, callWith, assignmentVerdict, assignmentCall};
-ghost use Rattle.assoc_assignment.specs.Private.{chosen, picked, rejected, Rowed, Mark, Marked, TailRoom, Tails, LeftRoom, leavingWith, leaving, ListRoom, listingWith, listing, AssignmentReady};
+ghost use Rattle.assoc_assignment.specs.Private.{Found, chosen, picked, rejected, Rowed, Mark, Marked, TailRoom, Tails, LeftRoom, leavingWith, leaving, ListRoom, listingWith, listing, AssignmentReady};
 use assoc_matching::PartnerAnswer;
-use assoc_matching::find_partners;
+use assoc_matching::clear;
+use assoc_matching::direct_columns;
+use assoc_matching::is_direct;
+use assoc_matching::lapjv_partners;
 use assoc_matching::put_pair;
 use refusals::Refusal;
 use refusals::Verdict;
@@ -48,6 +51,34 @@ pub(crate) struct Lengths {
     pairs: usize,
     boxes: usize,
     tracks: usize,
+}
+
+// ---- the matched pairs
+
+// For each row its column, or ncols; and lapjv's counts. On the direct path the columns come from the costs alone, and
+// the work slice is only cleared. No call of lapjv_partners is refused here.
+fn find_partners(
+    cost: &[f32],
+    nrows: usize,
+    ncols: usize,
+    threshold: f32,
+    work: &mut [f64],
+    partner: &mut [u8],
+) -> lapjv::Counts
+    requires sides { ⌜ Sized nrows ncols (length (now cost)) ⌝ }
+    requires square { ⌜ max nrows ncols * max nrows ncols ≤ length (now work) ⌝ }
+    requires rows { ⌜ length (now partner) ≡ nrows ⌝ }
+    ensures { λ r. ⌜ Found (now (cost .entry)) nrows ncols threshold (now (work .entry)) r (now (partner .exit)) (now (work .exit)) ⌝ }
+{
+    if is_direct(nrows, ncols, cost, threshold) {
+        direct_columns(ncols, cost, threshold, partner);
+        clear(work);
+        return lapjv::Counts { turns: 0, scans: 0 };
+    }
+    let PartnerAnswer::Found(counts) = lapjv_partners(nrows, ncols, cost, partner, work) else {
+        return lapjv::Counts { turns: 0, scans: 0 };
+    };
+    counts
 }
 
 // ---- the pairs that stand, or the others
@@ -302,7 +333,6 @@ pub fn assignment_verdict(
     Verdict::Accepted
 }
 
-// No call of find_partners is refused here.
 fn assign_with(
     iou: &[f32],
     cost: &[f32],
@@ -315,36 +345,31 @@ fn assign_with(
     left: &mut [usize],
     work: &mut [f64],
     partner: &mut [u8],
-) -> AssignmentAnswer
+) -> AssignmentCounts
     requires ready { ⌜ AssignmentReady nrows ncols (length (now iou)) (length (now cost)) (roomWith (length (now boxes)) (length (now tracks)) (length (now detections)) (length (now left))) (length (now work)) ⌝ }
     requires rows { ⌜ length (now partner) ≡ nrows ⌝ }
     ensures { λ r. ⌜ (let a = linearAssignment (now (iou .entry)) (now (cost .entry)) nrows ncols threshold in
-        callWith r (lentWith (now (boxes .exit)) (now (tracks .exit)) (now (detections .exit)) (now (left .exit)) (now (work .exit)))
+        callWith (Assigned r) (lentWith (now (boxes .exit)) (now (tracks .exit)) (now (detections .exit)) (now (left .exit)) (now (work .exit)))
         ≡ callWith (Assigned (assignmentCounts a)) (lentAfter a (lentWith (now (boxes .entry)) (now (tracks .entry)) (now (detections .entry)) (now (left .entry)) (now (work .entry))))) ⌝ }
 {
-    let answer = find_partners(nrows, ncols, cost, threshold, partner, work);
-    match answer {
-        PartnerAnswer::Refused(why) => AssignmentAnswer::Refused(why),
-        PartnerAnswer::Found(counts) => {
-            let lists = list(
-                iou,
-                nrows,
-                ncols,
-                threshold,
-                partner,
-                boxes,
-                tracks,
-                detections,
-                left,
-            );
-            AssignmentAnswer::Assigned(AssignmentCounts {
-                pairs: lists.pairs,
-                detections: lists.boxes,
-                tracks: lists.tracks,
-                turns: counts.turns,
-                scans: counts.scans,
-            })
-        }
+    let counts = find_partners(cost, nrows, ncols, threshold, work, partner);
+    let lists = list(
+        iou,
+        nrows,
+        ncols,
+        threshold,
+        partner,
+        boxes,
+        tracks,
+        detections,
+        left,
+    );
+    AssignmentCounts {
+        pairs: lists.pairs,
+        detections: lists.boxes,
+        tracks: lists.tracks,
+        turns: counts.turns,
+        scans: counts.scans,
     }
 }
 
@@ -381,7 +406,7 @@ pub fn linear_assignment(
         return AssignmentAnswer::Refused(why);
     }
     let mut partner = [0u8; 255];
-    assign_with(
+    let counts = assign_with(
         iou,
         cost,
         boxes,
@@ -393,5 +418,6 @@ pub fn linear_assignment(
         unmatched_tracks,
         work,
         &mut partner[..boxes],
-    )
+    );
+    AssignmentAnswer::Assigned(counts)
 }

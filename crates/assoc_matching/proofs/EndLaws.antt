@@ -1,10 +1,12 @@
 -- The two ends of a public call: refused with nothing changed, and accepted. Assumes nothing.
 use mathlib.Core.Path.{_≡_, sym, ap, _∙_}
 use mathlib.Core.List.{List}
-use Prim.Native.Nat.{ℕ}
+use mathlib.Core.Bool.{false}
+use Prim.Native.Nat.{ℕ, _<_}
 use native.Mathlib.Omega.{arith}
 use lib.Ieee.{Float}
 use lib.ListN.{length}
+use Rattle.laws.specs.Tab.{tab, tab-ext}
 use Rattle.lapjv.specs.declared.Counts.{Counts}
 use Rattle.refusals.specs.declared.refusal.Refusal.{Refusal}
 use Rattle.refusals.specs.declared.refusal.Refusal.the-variants.{TooMany, OtherSize, TooShort}
@@ -14,26 +16,27 @@ use Rattle.refusals.specs.Refusal.{number}
 use Rattle.assoc_matching.specs.declared.matching.MatchAnswer.the-variants as match-answer
 use Rattle.assoc_matching.specs.declared.matching.PartnerAnswer.{PartnerAnswer}
 use Rattle.assoc_matching.specs.declared.matching.PartnerAnswer.the-variants as partner-answer
-use Rattle.assoc_matching.specs.Matching.{Matched, matchDetections}
+use Rattle.assoc_matching.specs.Matching.{simple, Matched, matchDetections}
 use Rattle.assoc_matching.specs.Answers.{Call, zeroed, PartnerLent, partnerLentWith, partnerCallWith, partnerVerdict, partnerCall, MatchLent, matchLentAfter, matchCounts, matchCallWith, matchVerdict, matchCall}
-use Rattle.assoc_matching.specs.Partners.{Partnered, PartnerReady}
+use Rattle.assoc_matching.specs.Partners.{countsOf, solution, solvedColumn, partnerOf, Partnered, PartnerReady}
+use Rattle.assoc_matching.specs.Private.{Solution}
 use Rattle.assoc_matching.proofs.AnswerLaws.{partner-accepted}
 
-module _ (boxes tracks : ℕ) (cost : List Float) (threshold : Float) (l : PartnerLent) where
+module _ (boxes tracks : ℕ) (cost : List Float) (l : PartnerLent) where
   abbrev sought : Verdict
   sought = partnerVerdict boxes tracks (length cost) (length (l .partner)) (length (l .work))
 
-  pub partner-refused : {v : Verdict} {why : Refusal} → v ≡ sought → v ≡ Refused why → partnerCallWith (partner-answer.Refused why) l ≡ partnerCall boxes tracks cost threshold l
+  pub partner-refused : {v : Verdict} {why : Refusal} → v ≡ sought → v ≡ Refused why → partnerCallWith (partner-answer.Refused why) l ≡ partnerCall boxes tracks cost l
   unfolding partnerCall
   partner-refused e f = rw (sym e ∙ f)
 
-  pub partner-found : {k : Counts} {partner : List ℕ} {work : List Float} → sought ≡ Accepted → Partnered cost boxes tracks threshold k partner → work ≡ zeroed (l .work)
-      → partnerCallWith (partner-answer.Found k) (partnerLentWith partner work) ≡ partnerCall boxes tracks cost threshold l
+  pub partner-found : {k : Counts} {partner : List ℕ} {work : List Float} → sought ≡ Accepted → Solution cost boxes tracks k partner → work ≡ zeroed (l .work)
+      → partnerCallWith (partner-answer.Found k) (partnerLentWith partner work) ≡ partnerCall boxes tracks cost l
   unfolding partnerCall
   partner-found e w z = rw (e, w .counts, w .partners, z)
 
   -- for a caller that knows the sizes: it is not turned down
-  module _ (ready : PartnerReady boxes tracks (length cost) (length (l .partner)) (length (l .work))) (r : PartnerAnswer) {after : PartnerLent} (call : partnerCallWith r after ≡ partnerCall boxes tracks cost threshold l) where
+  module _ (ready : PartnerReady boxes tracks (length cost) (length (l .partner)) (length (l .work))) (r : PartnerAnswer) {after : PartnerLent} (call : partnerCallWith r after ≡ partnerCall boxes tracks cost l) where
     accepted : sought ≡ Accepted
     accepted = partner-accepted ready
 
@@ -46,12 +49,15 @@ module _ (boxes tracks : ℕ) (cost : List Float) (threshold : Float) (l : Partn
         none OtherSize q = omega arith
         none TooShort q = omega arith
 
-    pub partners-are : {k : Counts} → r ≡ partner-answer.Found k → Partnered cost boxes tracks threshold k (after .partner)
+    -- and where the direct path is not open, what it finds are the pairs
+    pub partners-are : (t : Float) → simple cost boxes tracks t ≡ false → {k : Counts} → r ≡ partner-answer.Found k → Partnered cost boxes tracks t k (after .partner)
     unfolding partnerCall
-    partners-are {k} e =
+    partners-are t s {k} e =
+        let counts : k ≡ countsOf (solution cost boxes tracks) = ap (λ (c : Call Counts PartnerLent). c .counts) (rw e at call) ∙ rw accepted in
+        let partners : after .partner ≡ tab (solvedColumn cost boxes tracks) boxes = ap (λ (c : Call Counts PartnerLent). c .lent .partner) call ∙ rw accepted in
         record {
-          counts = ap (λ (c : Call Counts PartnerLent). c .counts) (rw e at call) ∙ rw accepted;
-          partners = ap (λ (c : Call Counts PartnerLent). c .lent .partner) call ∙ rw accepted;
+          counts = counts ∙ rw s;
+          partners = partners ∙ tab-ext (solvedColumn cost boxes tracks) (partnerOf cost boxes tracks t) boxes (λ (i : ℕ) (h : i < boxes). rw s);
         }
 
     pub partners-clear : after .work ≡ zeroed (l .work)

@@ -20,28 +20,28 @@ use Rattle.laws.specs.Last.{lastWhere, last-hit, sieve-last}
 use Rattle.lapjv_definition.specs.Bounds.{Bounds, Paired}
 use Rattle.lapjv_definition.proofs.Theorem.{bounds}
 use Rattle.assoc_matching.specs.Matching.{pair, mask, rowSum, colSum, simple, simpleMatches, costVec, extract, extracted, isErr, matched, matchDetections}
-use Rattle.assoc_matching.specs.Partners.{pairsOf, column, solution, countsOf, partnerOf, countsFor}
-use Rattle.assoc_matching.proofs.PairLaws.{paired, no-column, map-maybe, Apart}
+use Rattle.assoc_matching.specs.Partners.{pairsOf, column, solution, countsOf, directColumn, solvedColumn, solvedMatch, partnerOf, countsFor}
+use Rattle.assoc_matching.proofs.PairLaws.{paired, no-column, map-maybe, pairs-ext, Apart}
 use Rattle.assoc_matching.proofs.SquareLaws.{no-error}
 
 -- ---- the direct path
 
 module _ (cost : List Float) (n m : ℕ) (t : Float) where
-  rows-low : simple cost n m t ≡ true → (i : ℕ) → i < n → rowSum cost m t i ≤ 1
+  pub rows-low : simple cost n m t ≡ true → (i : ℕ) → i < n → rowSum cost m t i ≤ 1
   unfolding simple
   rows-low e = low-at (rowSum cost m t) 1 n (and-left (leb (most (rowSum cost m t) n) 1) (leb (most (colSum cost n m t) m) 1) e)
 
-  cols-low : simple cost n m t ≡ true → (j : ℕ) → j < m → colSum cost n m t j ≤ 1
+  pub cols-low : simple cost n m t ≡ true → (j : ℕ) → j < m → colSum cost n m t j ≤ 1
   unfolding simple
   cols-low e = low-at (colSum cost n m t) 1 m (and-right (leb (most (rowSum cost m t) n) 1) (leb (most (colSum cost n m t) m) 1) e)
 
-  simple-pairs : simple cost n m t ≡ true → simpleMatches cost n m t ≡ pairsOf m (λ i. lastWhere (mask cost m t i) m m) n
+  pub simple-pairs : simple cost n m t ≡ true → simpleMatches cost n m t ≡ pairsOf m (directColumn cost m t) n
   unfolding simpleMatches pairsOf
   simple-pairs e =
       joined-ext (λ i. map (pair i) (sieve (mask cost m t i) (indices m))) (λ i. paired m i (lastWhere (mask cost m t i) m m)) n
       (λ (i : ℕ) (h : i < n). ap (map (pair i)) (sieve-last (mask cost m t i) m m (le-refl m) (rows-low e i h)) ∙ map-maybe (pair i) (ltb (lastWhere (mask cost m t i) m m) m) (lastWhere (mask cost m t i) m m))
 
-  apart-simple : simple cost n m t ≡ true → Apart m (λ i. lastWhere (mask cost m t i) m m) n
+  pub apart-simple : simple cost n m t ≡ true → Apart m (directColumn cost m t) n
   apart-simple e k h =
       le-trans
       (count-mono (λ i. eqb k (lastWhere (mask cost m t i) m m)) (λ i. mask cost m t i k) n (λ (i : ℕ) (l : i < n) q.
@@ -97,7 +97,7 @@ extract-none : (big n m i j : ℕ) → n ≤ i → extract big n m i j ≡ []
 unfolding extract
 extract-none big n m i j h = rw (le-ltb i n h)
 
-extracted-pairs : (x : List ℕ) (big n m : ℕ) → n ≤ big → m ≤ big → extracted x big n m ≡ pairsOf m (λ i. column m (getD x i 0)) n
+pub extracted-pairs : (x : List ℕ) (big n m : ℕ) → n ≤ big → m ≤ big → extracted x big n m ≡ pairsOf m (λ i. column m (getD x i 0)) n
 unfolding extracted pairsOf
 extracted-pairs x big n m h l =
     joined-cut (λ i. extract big n m i (getD x i 0)) n big h (λ (i : ℕ) (q : n ≤ i). extract-none big n m i (getD x i 0) q)
@@ -117,7 +117,7 @@ column-is m k j h e = by-cases (ltb j m) e
         itself : (a b : ℕ) → a < b → a ≡ b → ⊥
         itself a b h e = omega arith
 
-apart-solved : (n m : ℕ) (x y : List ℕ) → Paired (max n m) x y → Apart m (λ i. column m (getD x i 0)) n
+pub apart-solved : (n m : ℕ) (x y : List ℕ) → Paired (max n m) x y → Apart m (λ i. column m (getD x i 0)) n
 apart-solved n m x y w k h =
     let i₀ : ℕ = getD y k 0 in
     le-trans
@@ -148,7 +148,7 @@ module _ (cost : List Float) (n m : ℕ) (t : Float) (few-rows : n ≤ 255) (few
           (cond (isErr (max n m) (costVec cost n m (max n m))) (matched [] 0 0) (matched (extracted (solution cost n m .x) (max n m) n m) (solution cost n m .turns) (solution cost n m .scans))))
           ≡ matched (pairsOf m (λ i. cond s (lastWhere (mask cost m t i) m m) (column m (getD (solution cost n m .x) i 0))) n)
           (cond s (record { turns = 0; scans = 0 }) (countsOf (solution cost n m)) .turns) (cond s (record { turns = 0; scans = 0 }) (countsOf (solution cost n m)) .scans)
-      by-cases true e true f = rw (pairs-none n m (λ i. lastWhere (mask cost m t i) m m) e)
+      by-cases true e true f = rw (pairs-none n m (directColumn cost m t) e)
       by-cases true e false f = absurd (true-not-false (sym (simple-none cost n m t e) ∙ f))
       by-cases false e true f = rw (simple-pairs cost n m t f)
       by-cases false e false f =
@@ -156,6 +156,17 @@ module _ (cost : List Float) (n m : ℕ) (t : Float) (few-rows : n ≤ 255) (few
             no-error cost n m (max n m) (some-side cost n m t f) (max-le few-rows few-cols),
             extracted-pairs (solution cost n m .x) (max n m) n m (le-max-left n m) (le-max-right n m),
           )
+
+  -- the two paths
+  pub match-direct : simple cost n m t ≡ true → matchDetections cost n m t ≡ matched (simpleMatches cost n m t) 0 0
+  match-direct e =
+      let q : pairsOf m (partnerOf cost n m t) n ≡ pairsOf m (directColumn cost m t) n = pairs-ext m (partnerOf cost n m t) (directColumn cost m t) n (λ (i : ℕ) (h : i < n). rw e) in
+      match-is ∙ rw (q, e, simple-pairs cost n m t e)
+
+  pub match-solved : simple cost n m t ≡ false → matchDetections cost n m t ≡ solvedMatch cost n m
+  match-solved e =
+      let q : pairsOf m (partnerOf cost n m t) n ≡ pairsOf m (solvedColumn cost n m) n = pairs-ext m (partnerOf cost n m t) (solvedColumn cost n m) n (λ (i : ℕ) (h : i < n). rw e) in
+      match-is ∙ rw (q, e)
 
   -- no column is that of two rows
   pub apart : Apart m (partnerOf cost n m t) n

@@ -81,6 +81,12 @@ module _ (m : ℕ) (f : ℕ → ℕ) (boxes₀ tracks₀ : List ℕ) where
         tracks-are = rw (map-pairs (λ (p : Pair). p .track) m f i) (push-maybe tracks₀ (ltb (f i) m) (f i) (w .tracks-are) (λ e. le-trans (room e) b) (q .many) (q .tracks-are));
       }
 
+  -- the same, of a column that was found for the row
+  pub wrote-found : {i n j k r : ℕ} {boxes tracks boxes′ tracks′ : List ℕ} → j ≡ f i → Wrote (pairsOf m f i) boxes₀ tracks₀ k boxes tracks → i < n
+      → length (pairsOf m f n) ≤ length boxes₀ → length (pairsOf m f n) ≤ length tracks₀
+      → Put (putting j m k boxes tracks) k (pair i j) boxes tracks r boxes′ tracks′ → Wrote (pairsOf m f (i + 1)) boxes₀ tracks₀ r boxes′ tracks′
+  wrote-found e w h a b p = wrote-on w h a b (rw e at p)
+
 -- pairs are given by their rows
 pub pairs-ext : (m : ℕ) (f g : ℕ → ℕ) (n : ℕ) → ((i : ℕ) → i < n → f i ≡ g i) → pairsOf m f n ≡ pairsOf m g n
 unfolding pairsOf

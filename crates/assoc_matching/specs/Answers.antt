@@ -1,4 +1,4 @@
--- What a call of find_partners or of match_detections says and leaves in lent memory: document 01, "When a call is turned down", Pairs.
+-- What a call of lapjv_partners or of match_detections says and leaves in lent memory: document 01, "When a call is turned down", Pairs.
 use mathlib.Core.Bool.{not, _||_}
 use mathlib.Core.List.{List}
 use Prim.Native.Nat.{ℕ, _*_, max, min}
@@ -16,7 +16,7 @@ use Rattle.assoc_matching.specs.declared.matching.MatchAnswer.the-varian
 use Rattle.assoc_matching.specs.declared.matching.PartnerAnswer.{PartnerAnswer}
 use Rattle.assoc_matching.specs.declared.matching.PartnerAnswer.the-variants as partner-answer
 use Rattle.assoc_matching.specs.Matching.{boxesOf, tracksOf, Matched, matchDetections}
-use Rattle.assoc_matching.specs.Partners.{partnerOf, countsFor}
+use Rattle.assoc_matching.specs.Partners.{countsOf, solution, solvedColumn}
 
 -- ---- a call
 
@@ -33,7 +33,7 @@ callBy v counts after none before = record { number = verdictNumber v; counts = 
 abbrev pub zeroed : List Float → List Float
 zeroed l = tab (λ i. ofBits binary64 0) (length l)
 
--- ---- find_partners
+-- ---- lapjv_partners
 
 pub record PartnerLent : Type 0 where
   -- for each box its track, or the number of tracks where it has none
@@ -58,20 +58,20 @@ partnerValues (partner-answer.Refused why) = noPartnerCounts
 abbrev pub partnerCallWith : PartnerAnswer → PartnerLent → Call Counts PartnerLent
 partnerCallWith r l = record { number = partnerNumber r; counts = partnerValues r; lent = l }
 
--- from the lengths of the cost matrix, of the partners and of the work slice
+-- from the lengths of the cost matrix, of the partners and of the work slice: lapjv solves no square without a cell
 unfoldable pub partnerVerdict : ℕ → ℕ → ℕ → ℕ → ℕ → Verdict
 partnerVerdict boxes tracks costs partners work =
     let n = max boxes tracks in
     verdict
     (tooMany boxes tracks)
-    (not (eqb costs (boxes * tracks)) || not (eqb partners boxes))
+    ((not (eqb costs (boxes * tracks)) || not (eqb partners boxes)) || eqb n 0)
     (ltb work (n * n))
 
--- the partners stored, and the work slice zero
-unfoldable pub partnerCall : ℕ → ℕ → List Float → Float → PartnerLent → Call Counts PartnerLent
-partnerCall boxes tracks cost threshold l =
+-- the partners of the solved square stored, and the work slice zero
+unfoldable pub partnerCall : ℕ → ℕ → List Float → PartnerLent → Call Counts PartnerLent
+partnerCall boxes tracks cost l =
     let v = partnerVerdict boxes tracks (length cost) (length (l .partner)) (length (l .work)) in
-    callBy v (countsFor cost boxes tracks threshold) (partnerLentWith (tab (partnerOf cost boxes tracks threshold) boxes) (zeroed (l .work))) noPartnerCounts l
+    callBy v (countsOf (solution cost boxes tracks)) (partnerLentWith (tab (solvedColumn cost boxes tracks) boxes) (zeroed (l .work))) noPartnerCounts l
 
 -- ---- match_detections
 

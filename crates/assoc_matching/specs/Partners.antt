@@ -13,7 +13,8 @@ use Rattle.laws.specs.Last.{lastWhere}
 use Rattle.laws.specs.Over.{Pushed}
 use Rattle.lapjv_definition.specs.Lapjv.{lapjv, Assignment as Solved}
 use Rattle.lapjv.specs.declared.Counts.{Counts}
-use Rattle.assoc_matching.specs.Matching.{Pair, pair, boxesOf, tracksOf, mask, simple, costVec}
+use Rattle.assoc_matching.specs.Direct.{isMatrix}
+use Rattle.assoc_matching.specs.Matching.{Pair, pair, boxesOf, tracksOf, mask, simple, costVec, Matched, matched}
 
 -- ---- sides
 
@@ -49,20 +50,38 @@ solution cost nrows ncols = lapjv (max nrows ncols) (costVec cost nrows ncols (m
 abbrev pub countsOf : Solved → Counts
 countsOf a = record { turns = a .turns; scans = a .scans }
 
+-- a row's column on the direct path, and on the path by lapjv
+abbrev pub directColumn : List Float → ℕ → Float → ℕ → ℕ
+directColumn cost ncols threshold i = lastWhere (mask cost ncols threshold i) ncols ncols
+
+abbrev pub solvedColumn : List Float → ℕ → ℕ → ℕ → ℕ
+solvedColumn cost nrows ncols i = column ncols (getD (solution cost nrows ncols .x) i 0)
+
+-- the matches of the path by lapjv
+abbrev pub solvedMatch : List Float → ℕ → ℕ → Matched
+solvedMatch cost nrows ncols = matched (pairsOf ncols (solvedColumn cost nrows ncols) nrows) (solution cost nrows ncols .turns) (solution cost nrows ncols .scans)
+
+-- on either
 abbrev pub partnerOf : List Float → ℕ → ℕ → Float → ℕ → ℕ
-partnerOf cost nrows ncols threshold i =
-    cond (simple cost nrows ncols threshold) (lastWhere (mask cost ncols threshold i) ncols ncols) (column ncols (getD (solution cost nrows ncols .x) i 0))
+partnerOf cost nrows ncols threshold i = cond (simple cost nrows ncols threshold) (directColumn cost ncols threshold i) (solvedColumn cost nrows ncols i)
 
 abbrev pub countsFor : List Float → ℕ → ℕ → Float → Counts
 countsFor cost nrows ncols threshold = cond (simple cost nrows ncols threshold) (record { turns = 0; scans = 0 }) (countsOf (solution cost nrows ncols))
 
--- what an accepted call of find_partners has been found to hold
+-- the columns of the direct path, the last above the threshold where a row has several; what is no matrix leaves the list as it was
+unfoldable pub directColumns : List Float → ℕ → Float → List ℕ → List ℕ
+directColumns cost ncols threshold partner =
+    let n = length partner in
+    cond (isMatrix n ncols (length cost)) (tab (directColumn cost ncols threshold) n) partner
+
+-- what an accepted call of lapjv_partners has been found to hold
 pub record PartnerReady (nrows ncols costs partners work : ℕ) : Type 0 where
   pub sides : Sized nrows ncols costs
   pub rows : partners ≡ nrows
+  pub some : 1 ≤ max nrows ncols
   pub room-work : max nrows ncols * max nrows ncols ≤ work
 
--- and what is found
+-- what is found on either path
 pub record Partnered (cost : List Float) (n m : ℕ) (t : Float) (r : Counts) (partner : List ℕ) : Type 0 where
   pub counts : r ≡ countsFor cost n m t
   pub partners : partner ≡ tab (partnerOf cost n m t) n

@@ -1,17 +1,14 @@
--- What the contracts of the private functions of matching.rt cite. proofs/ shows that it comes to the definition.
+-- What the contracts of the private functions of matching.rt and direct.rt cite. proofs/ shows that it comes to the definition.
 use mathlib.Core.Path.{_≡_}
 use mathlib.Core.List.{List}
-use mathlib.Core.Bool.{Bool, true}
+use mathlib.Core.Bool.{Bool}
 use Prim.Native.Nat.{ℕ, _+_, _*_, _≤_, _<_, max, min}
 use lib.Ieee.{Float}
 use lib.ListN.{length, getD}
 use Rattle.laws.specs.Tab.{tab}
 use Rattle.laws.specs.Count.{bit, countWhere}
-use Rattle.laws.specs.Last.{lastWhere}
 use Rattle.lapjv.specs.declared.Counts.{Counts}
-use Rattle.assoc_matching.specs.declared.matching.RowSum.{RowSum}
-use Rattle.assoc_matching.specs.Matching.{mask, simple}
-use Rattle.assoc_matching.specs.Partners.{Sized, column, solution, countsOf}
+use Rattle.assoc_matching.specs.Partners.{Sized, solution, countsOf, solvedColumn}
 
 -- ---- the direct path
 
@@ -26,14 +23,9 @@ pub record RowIn (cells at m : ℕ) (sums : List ℕ) : Type 0 where
 abbrev pub raised : (ℕ → Bool) → List ℕ → ℕ → ℕ
 raised p sums j = getD sums j 0 + bit (p j)
 
-pub record RowOut (p : ℕ → Bool) (m : ℕ) (sums : List ℕ) (r : RowSum) (out : List ℕ) : Type 0 where
-  pub sum : r .sum ≡ countWhere p m
-  pub last-hit : r .last ≡ lastWhere p m m
+pub record RowOut (p : ℕ → Bool) (m : ℕ) (sums : List ℕ) (sum : ℕ) (out : List ℕ) : Type 0 where
+  pub sum-is : sum ≡ countWhere p m
   pub cols : out ≡ tab (raised p sums) m
-
-pub record Direct (cost : List Float) (n m : ℕ) (t : Float) (r : Bool) (partner : List ℕ) : Type 0 where
-  pub answer : r ≡ simple cost n m t
-  pub partners : r ≡ true → partner ≡ tab (λ i. lastWhere (mask cost m t i) m m) n
 
 -- ---- the path by lapjv
 
@@ -47,7 +39,7 @@ pub record Whole (nrows ncols n work x y : ℕ) : Type 0 where
 
 pub record Solution (cost : List Float) (n m : ℕ) (r : Counts) (partner : List ℕ) : Type 0 where
   pub counts : r ≡ countsOf (solution cost n m)
-  pub partners : partner ≡ tab (λ i. column m (getD (solution cost n m .x) i 0)) n
+  pub partners : partner ≡ tab (solvedColumn cost n m) n
 
 -- ---- both
 

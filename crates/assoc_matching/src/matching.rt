@@ -1,23 +1,20 @@
 // match_detections of assoc.rs: pairs of boxes (rows) and tracks (columns) from a matrix of costs.
 //
-// Both of the Rust's paths give a row at most one column, so inside the pairs are a list of bytes:
-// for each row its column, or ncols where it has none.
+// The direct path is in direct.rt. Here is the path by lapjv, which gives a row at most one column, so inside the
+// pairs are a list of bytes: for each row its column, or ncols where it has none.
+use crate::direct::Directly;
+use crate::direct::match_directly;
 use refusals::larger;
 use refusals::smaller;
 ghost use mathlib.Core.Path.{_≡_};
-ghost use mathlib.Core.Bool.{cond};
-ghost use Prim.Native.Nat.{_+_, _*_, _≤_, _<_, max};
-ghost use lib.Dec.{leb};
+ghost use Prim.Native.Nat.{_*_, _≤_, max};
 ghost use lib.ListN.{length, getD};
-ghost use lib.Ieee.{lt};
 ghost use Rattle.laws.specs.Tab.{tab};
-ghost use Rattle.laws.specs.Count.{bit};
-ghost use Rattle.laws.specs.Most.{most};
 ghost use Rattle.assoc_matching.specs.declared.matching.MatchAnswer.the-variants.{Matched};
-ghost use Rattle.assoc_matching.specs.Matching.{pair, above, costCell, costVec, matchDetections};
-ghost use Rattle.assoc_matching.specs.Partners.{Sized, Clean, column, held, putting, Put, PairRoom, Wrote, Partnered};
+ghost use Rattle.assoc_matching.specs.Matching.{pair, costCell, costVec, matchDetections};
+ghost use Rattle.assoc_matching.specs.Partners.{Sized, column, held, solvedMatch, putting, Put, PairRoom, Wrote};
 ghost use Rattle.assoc_matching.specs.Answers.{zeroed, partnerLentWith, partnerCallWith, partnerVerdict, partnerCall, matchLentWith, matchLentAfter, matchCounts, matchCallWith, matchVerdict, matchCall};
-ghost use Rattle.assoc_matching.specs.Private.{RowIn, RowOut, Direct, Whole, Solution, MatchReady};
+ghost use Rattle.assoc_matching.specs.Private.{Whole, Solution, MatchReady};
 use refusals::Refusal;
 use refusals::Verdict;
 
@@ -33,111 +30,10 @@ pub enum MatchAnswer {
     Refused(Refusal),
 }
 
-// The answer of find_partners: lapjv's counts alone.
+// The answer of lapjv_partners: lapjv's counts alone.
 pub enum PartnerAnswer {
     Found(lapjv::Counts),
     Refused(Refusal),
-}
-
-// ---- the direct path
-
-// How many cells of a row are above the threshold, and the last of them, or ncols.
-pub(crate) struct RowSum {
-    sum: u8,
-    last: usize,
-}
-
-fn one_more(c: f32, threshold: f32, sum: u8) -> u8
-    requires { ⌜ sum < 255 ⌝ }
-    ensures { λ r. ⌜ r ≡ sum + bit (lt threshold c) ⌝ }
-{
-    if c > threshold {
-        return sum + 1;
-    }
-    sum
-}
-
-fn later(c: f32, threshold: f32, j: usize, last: usize) -> usize
-    ensures { λ r. ⌜ r ≡ cond (lt threshold c) j last ⌝ }
-{
-    if threshold < c {
-        return j;
-    }
-    last
-}
-
-// Adds the row that starts at the flat place `at` to the sums of the columns.
-fn sum_row(cost: &[f32], at: usize, ncols: usize, threshold: f32, sums: &mut [u8]) -> RowSum
-    requires { ⌜ RowIn (length (now cost)) at ncols (now sums) ⌝ }
-    ensures { λ r. ⌜ RowOut (above (now (cost .entry)) threshold at) ncols (now (sums .entry)) r (now (sums .exit)) ⌝ }
-{
-    let mut sum = 0u8;
-    let mut last = ncols;
-    let mut j = 0;
-    while j < ncols {
-        let c = cost[at + j];
-        sum = one_more(c, threshold, sum);
-        last = later(c, threshold, j, last);
-        sums[j] = one_more(c, threshold, sums[j]);
-        j += 1;
-    }
-    RowSum {
-        sum: sum,
-        last: last,
-    }
-}
-
-fn at_most_one(sums: &[u8]) -> bool
-    ensures { λ r. ⌜ r ≡ leb (most (λ j. getD (now (sums .entry)) j 0) (length (now (sums .entry)))) 1 ⌝ }
-{
-    let mut j = 0;
-    while j < sums.len() {
-        let sum = sums[j];
-        if 1 < sum {
-            return false;
-        }
-        j += 1;
-    }
-    true
-}
-
-// Whether no row and no column has more than one cost above the threshold: then each row's column is in `partner`.
-fn direct_with(
-    cost: &[f32],
-    nrows: usize,
-    ncols: usize,
-    threshold: f32,
-    partner: &mut [u8],
-    sums: &mut [u8],
-) -> bool
-    requires sides { ⌜ Sized nrows ncols (length (now cost)) ⌝ }
-    requires rows { ⌜ length (now partner) ≡ nrows ⌝ }
-    requires zeros { ⌜ Clean ncols 0 (now sums) ⌝ }
-    ensures { λ r. ⌜ Direct (now (cost .entry)) nrows ncols threshold r (now (partner .exit)) ⌝ }
-{
-    let mut i = 0;
-    let mut at = 0;
-    while i < nrows {
-        let row = sum_row(cost, at, ncols, threshold, sums);
-        let sum = row.sum;
-        let last = row.last;
-        if 1 < sum {
-            return false;
-        }
-        partner[i] = last as u8;
-        at += ncols;
-        i += 1;
-    }
-    at_most_one(sums)
-}
-
-fn direct(cost: &[f32], nrows: usize, ncols: usize, threshold: f32, partner: &mut [u8]) -> bool
-    requires sides { ⌜ Sized nrows ncols (length (now cost)) ⌝ }
-    requires rows { ⌜ length (now partner) ≡ nrows ⌝ }
-    ensures { λ r. ⌜ Direct (now (cost .entry)) nrows ncols threshold r (now (partner .exit)) ⌝ }
-{
-    let mut sums = [0u8; 255];
-    direct_with(cost, nrows, ncols, threshold, partner, &mut sums[..ncols])
 }
 
 // ---- the path by lapjv
@@ -255,31 +151,26 @@ fn solve(
     )
 }
 
-// ---- both
-
-// For each row its column, or ncols; and lapjv's counts.
-fn pair_rows(
+// For each row its column in the solved square, or ncols; and lapjv's counts.
+fn solve_rows(
     cost: &[f32],
     nrows: usize,
     ncols: usize,
-    threshold: f32,
     work: &mut [f64],
     partner: &mut [u8],
 ) -> lapjv::Counts
     requires sides { ⌜ Sized nrows ncols (length (now cost)) ⌝ }
+    requires some { ⌜ 1 ≤ max nrows ncols ⌝ }
     requires square { ⌜ max nrows ncols * max nrows ncols ≤ length (now work) ⌝ }
     requires rows { ⌜ length (now partner) ≡ nrows ⌝ }
-    ensures { λ r. ⌜ Partnered (now (cost .entry)) nrows ncols threshold r (now (partner .exit)) ⌝ }
+    ensures { λ r. ⌜ Solution (now (cost .entry)) nrows ncols r (now (partner .exit)) ⌝ }
 {
-    if direct(cost, nrows, ncols, threshold, partner) {
-        return lapjv::Counts { turns: 0, scans: 0 };
-    }
     let n = larger(nrows, ncols);
     let cells = n * n;
     solve(cost, nrows, ncols, n, &mut work[..cells], partner)
 }
 
-fn clear(work: &mut [f64])
+pub fn clear(work: &mut [f64])
     ensures { λ _. ⌜ now (work .exit) ≡ zeroed (now (work .entry)) ⌝ }
 {
     let mut i = 0;
@@ -301,36 +192,37 @@ fn partner_verdict(
     if (255 < boxes) | (255 < tracks) {
         return Verdict::Refused(Refusal::TooMany);
     }
-    if (costs != boxes * tracks) | (partners != boxes) {
+    let n = larger(boxes, tracks);
+    if (costs != boxes * tracks) | (partners != boxes) | (n == 0) {
         return Verdict::Refused(Refusal::OtherSize);
     }
-    let n = larger(boxes, tracks);
     if work < n * n {
         return Verdict::Refused(Refusal::TooShort);
     }
     Verdict::Accepted
 }
 
-// The pairs of match_detections with a byte for each box: its track, or `tracks` where it has none.
-pub fn find_partners(
+// The pairs of the path by lapjv with a byte for each box: its track, or `tracks` where it has none.
+pub fn lapjv_partners(
     boxes: usize,
     tracks: usize,
     cost: &[f32],
-    threshold: f32,
     partner: &mut [u8],
     work: &mut [f64],
 ) -> PartnerAnswer
     ensures { λ r. ⌜ partnerCallWith r (partnerLentWith (now (partner .exit)) (now (work .exit)))
-        ≡ partnerCall boxes tracks (now (cost .entry)) threshold (partnerLentWith (now (partner .entry)) (now (work .entry))) ⌝ }
+        ≡ partnerCall boxes tracks (now (cost .entry)) (partnerLentWith (now (partner .entry)) (now (work .entry))) ⌝ }
 {
     let verdict = partner_verdict(boxes, tracks, cost.len(), partner.len(), work.len());
     if let Verdict::Refused(why) = verdict {
         return PartnerAnswer::Refused(why);
     }
-    let counts = pair_rows(cost, boxes, tracks, threshold, work, partner);
+    let counts = solve_rows(cost, boxes, tracks, work, partner);
     clear(work);
     PartnerAnswer::Found(counts)
 }
+
+// ---- pairs in lent memory
 
 // Stores the pair i, j at place k, if j is a column and the slices have the place; how many are stored then.
 pub fn put_pair(
@@ -391,7 +283,59 @@ fn match_verdict(
     Verdict::Accepted
 }
 
-// No call of find_partners is refused here.
+fn match_by_lapjv_with(
+    cost: &[f32],
+    nrows: usize,
+    ncols: usize,
+    boxes: &mut [usize],
+    tracks: &mut [usize],
+    work: &mut [f64],
+    partner: &mut [u8],
+) -> MatchCounts
+    requires ready { ⌜ MatchReady nrows ncols (length (now cost)) (length (now boxes)) (length (now tracks)) (length (now work)) ⌝ }
+    requires some { ⌜ 1 ≤ max nrows ncols ⌝ }
+    requires rows { ⌜ length (now partner) ≡ nrows ⌝ }
+    ensures { λ r. ⌜ (let a = solvedMatch (now (cost .entry)) nrows ncols in
+        matchCallWith (Matched r) (matchLentWith (now (boxes .exit)) (now (tracks .exit)) (now (work .exit)))
+        ≡ matchCallWith (Matched (matchCounts a)) (matchLentAfter a (matchLentWith (now (boxes .entry)) (now (tracks .entry)) (now (work .entry))))) ⌝ }
+{
+    let counts = solve_rows(cost, nrows, ncols, work, partner);
+    clear(work);
+    let pairs = write_pairs(partner, ncols, boxes, tracks);
+    MatchCounts {
+        pairs: pairs,
+        turns: counts.turns,
+        scans: counts.scans,
+    }
+}
+
+fn match_by_lapjv(
+    cost: &[f32],
+    nrows: usize,
+    ncols: usize,
+    boxes: &mut [usize],
+    tracks: &mut [usize],
+    work: &mut [f64],
+) -> MatchCounts
+    requires ready { ⌜ MatchReady nrows ncols (length (now cost)) (length (now boxes)) (length (now tracks)) (length (now work)) ⌝ }
+    requires some { ⌜ 1 ≤ max nrows ncols ⌝ }
+    ensures { λ r. ⌜ (let a = solvedMatch (now (cost .entry)) nrows ncols in
+        matchCallWith (Matched r) (matchLentWith (now (boxes .exit)) (now (tracks .exit)) (now (work .exit)))
+        ≡ matchCallWith (Matched (matchCounts a)) (matchLentAfter a (matchLentWith (now (boxes .entry)) (now (tracks .entry)) (now (work .entry))))) ⌝ }
+{
+    let mut partner = [0u8; 255];
+    match_by_lapjv_with(
+        cost,
+        nrows,
+        ncols,
+        boxes,
+        tracks,
+        work,
+        &mut partner[..nrows],
+    )
+}
+
+// On the direct path the work slice is only cleared.
 fn match_with(
     cost: &[f32],
     nrows: usize,
@@ -400,23 +344,22 @@ fn match_with(
     boxes: &mut [usize],
     tracks: &mut [usize],
     work: &mut [f64],
-    partner: &mut [u8],
-) -> MatchAnswer
+) -> MatchCounts
     requires ready { ⌜ MatchReady nrows ncols (length (now cost)) (length (now boxes)) (length (now tracks)) (length (now work)) ⌝ }
-    requires rows { ⌜ length (now partner) ≡ nrows ⌝ }
     ensures { λ r. ⌜ (let a = matchDetections (now (cost .entry)) nrows ncols threshold in
-        matchCallWith r (matchLentWith (now (boxes .exit)) (now (tracks .exit)) (now (work .exit)))
+        matchCallWith (Matched r) (matchLentWith (now (boxes .exit)) (now (tracks .exit)) (now (work .exit)))
         ≡ matchCallWith (Matched (matchCounts a)) (matchLentAfter a (matchLentWith (now (boxes .entry)) (now (tracks .entry)) (now (work .entry))))) ⌝ }
 {
-    let answer = find_partners(nrows, ncols, cost, threshold, partner, work);
-    match answer {
-        PartnerAnswer::Refused(why) => MatchAnswer::Refused(why),
-        PartnerAnswer::Found(counts) => MatchAnswer::Matched(MatchCounts {
-            pairs: write_pairs(partner, ncols, boxes, tracks),
-            turns: counts.turns,
-            scans: counts.scans,
-        }),
+    let directly = match_directly(cost, nrows, ncols, threshold, boxes, tracks);
+    if let Directly::Taken(pairs) = directly {
+        clear(work);
+        return MatchCounts {
+            pairs: pairs,
+            turns: 0,
+            scans: 0,
+        };
     }
+    match_by_lapjv(cost, nrows, ncols, boxes, tracks, work)
 }
 
 // The pairs of the boxes and tracks of a cost matrix: direct where no row and no column has more than
@@ -444,8 +387,7 @@ pub fn match_detections(
     if let Verdict::Refused(why) = verdict {
         return MatchAnswer::Refused(why);
     }
-    let mut partner = [0u8; 255];
-    match_with(
+    let counts = match_with(
         cost,
         boxes,
         tracks,
@@ -453,6 +395,6 @@ pub fn match_detections(
         pair_boxes,
         pair_tracks,
         work,
-        &mut partner[..boxes],
-    )
+    );
+    MatchAnswer::Matched(counts)
 }

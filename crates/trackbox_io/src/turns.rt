@@ -74,13 +74,13 @@ fn read_on(p: Progress, input: &mut [u8]) -> Progress
 fn hand(
     p: Progress,
     input: &[u8],
-    text: &mut [u8],
     floats: &mut [f32],
     counters: &mut [u64],
     boxes: &mut [f32],
     out: &mut [u8],
     work64: &mut [f64],
     work32: &mut [f32],
+    text: &mut [u8],
 ) -> Progress
     requires { ⌜ Spec.Stands p ⌝ }
     requires { ⌜ Spec.Sizes (arrays (now input) (now text) (now floats) (now counters) (now boxes) (now out) (now work64) (now work32)) ⌝ }
@@ -129,13 +129,13 @@ fn turn(
     hand(
         ready,
         input,
-        text,
         floats,
         counters,
         boxes,
         out,
         work64,
         work32,
+        text,
     )
 }
 

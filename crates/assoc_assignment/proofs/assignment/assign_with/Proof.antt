@@ -1,89 +1,69 @@
 -- `assignment::assign_with` meets its contract. Assumes nothing.
 use mathlib.Core.Path.{_∙_}
-use borrow.Author.Needs.{needs}
 use denote.Ref.{now}
-use Rattle.assoc_matching.specs.Answers.{partnerLentWith}
-use Rattle.assoc_matching.proofs.EndLaws.{partner-not-refused, partners-are, partners-clear}
 use Rattle.assoc_assignment.specs.Answers.{lentWith}
-use Rattle.assoc_assignment.proofs.AnswerLaws.{partners-asked}
 use Rattle.assoc_assignment.proofs.ListLaws.{rowed, assignment-done}
 use Rattle.assoc_assignment.proofs.assignment.assign_with.Statement.{statement}
 use Rattle.assoc_assignment.proofs.assignment.assign_with.Tie as tie
 
 -- The places that the answers go back to.
-abbrev after-find-partners·returns : tie.After-known-told → tie.After-find-partners
-after-find-partners·returns c = c .before .before .before .before .before .before .before
+abbrev after-slice-known4 : tie.After-find-partners-arg2 → tie.After-slice-known4
+after-slice-known4 c = c .before .before .before .before
 
-abbrev after-slice-known4 : tie.After-known-told → tie.After-slice-known4
-after-slice-known4 c = after-find-partners·returns c .before .before .before .before .before
-
-abbrev start·returns : tie.After-known-told → tie.Start
-start·returns c = after-slice-known4 c .before .before .before .before .before .before
-
-abbrev after-answer2·list-requires : tie.After-list-arg5 → tie.After-answer2
-after-answer2·list-requires c = c .before .before .before .before .before .before
+abbrev start·find-partners-requires : tie.After-find-partners-arg2 → tie.Start
+start·find-partners-requires c = after-slice-known4 c .before .before .before .before .before .before
 
 abbrev after-find-partners·list-requires : tie.After-list-arg5 → tie.After-find-partners
-after-find-partners·list-requires c = after-answer2·list-requires c .before .before .before .before .before .before
-
-abbrev after-slice-known4·list-requires : tie.After-list-arg5 → tie.After-slice-known4
-after-slice-known4·list-requires c = after-find-partners·list-requires c .before .before .before .before .before
+after-find-partners·list-requires c = c .before .before .before .before .before .before .before .before .before
 
 abbrev start·list-requires : tie.After-list-arg5 → tie.Start
-start·list-requires c = after-slice-known4·list-requires c .before .before .before .before .before .before
+start·list-requires c = start·find-partners-requires (after-find-partners·list-requires c .before)
 
 abbrev after-list : tie.After-slice-known12 → tie.After-list
 after-list c = c .before .before .before .before .before .before .before .before
-
-abbrev after-answer2 : tie.After-slice-known12 → tie.After-answer2
-after-answer2 c = after-answer2·list-requires (after-list c .before)
 
 abbrev after-find-partners : tie.After-slice-known12 → tie.After-find-partners
 after-find-partners c = after-find-partners·list-requires (after-list c .before)
 
 abbrev start : tie.After-slice-known12 → tie.Start
-start c = start·list-requires (after-list c .before)
+start c = start·find-partners-requires (after-find-partners c .before)
+
+find-partners-requires : tie.Need-find-partners-requires
+find-partners-requires c κs =
+    let start = start·find-partners-requires c in
+    let ready = start .pre .0 in
+    (record { few-rows = ready .few-rows; few-cols = ready .few-cols; long = ready .long-cost }, (ready .room-work, start .pre .1))
 
 list-requires : tie.Need-list-requires
 list-requires c κs =
     let start = start·list-requires c in
-    let a = start .args in
-    let ready = start .pre .0 in
-    let lent = partnerLentWith (now (a .partner)) (now (a .work)) in
     let find-partners = after-find-partners·list-requires c .find-partners in
-    let partners = partners-are _ _ _ _ lent (partners-asked ready (start .pre .1)) _ (find-partners .ensures) (after-answer2·list-requires c .answer2 .given .1) in (
+    let ready = start .pre .0 in
+    let rows = find-partners .kept .1 .1 .1 .1 .1 .0 ∙ start .pre .1 in (
       record { few-rows = ready .few-rows; few-cols = ready .few-cols; long = ready .long-iou },
-      (rowed (now (a .iou)) _ _ _ _ (ready .few-rows) (ready .few-cols) partners (find-partners .kept .1 .1 .1 .1 .0 ∙ start .pre .1), ready .room-lists),
+      (rowed (now (start .args .iou)) _ _ _ _ (ready .few-rows) (ready .few-cols) (find-partners .ensures .pairs) rows, ready .room-lists),
     )
 
 returns : tie.Need-returns
 returns c =
-    let start = start·returns c in
-    let a = start .args in
-    let lent = partnerLentWith (now (a .partner)) (now (a .work)) in
-    absurd (partner-not-refused _ _ _ _ lent (partners-asked (start .pre .0) (start .pre .1)) _ (after-find-partners·returns c .find-partners .ensures) (c .before .answer .given .1))
-
-returns-2 : tie.Need-returns-2
-returns-2 c =
     let start = start c in
     let a = start .args in
     let ready = start .pre .0 in
-    let lent = partnerLentWith (now (a .partner)) (now (a .work)) in
-    let asked = partners-asked ready (start .pre .1) in
-    let find-partners = after-find-partners c .find-partners in
+    let found = after-find-partners c .find-partners .ensures in
     assignment-done (now (a .iou)) (now (a .cost)) (a .nrows) (a .ncols) (a .threshold) (ready .few-rows) (ready .few-cols)
     (lentWith (now (a .boxes)) (now (a .tracks)) (now (a .detections)) (now (a .left)) (now (a .work)))
-    (partners-are _ _ _ _ lent asked _ (find-partners .ensures) (after-answer2 c .answer2 .given .1)) (after-list c .list .ensures) (partners-clear _ _ _ _ lent asked (find-partners .result) (find-partners .ensures))
+    (found .pairs) (after-list c .list .ensures) (found .cleared)
 
 pub assign-with-spec : {M : Type 1} → statement M
 assign-with-spec =
     tie.close
     (tie.spec
-    (λ c κs. tt) (λ c. search needs) (λ c. search needs)
+    find-partners-requires
     list-requires
-    (λ c. after-find-partners·returns c .find-partners .kept .1 .1 .1 .1 .1 .0) (λ c. after-find-partners·returns c .find-partners .kept .1 .1 .1 .1 .0)
-    returns
-    (λ c. after-list c .list .kept .1 .1 .1 .1 .1 .0) (λ c. after-list c .list .kept .1 .1 .1 .1 .1 .1 .0)
-    (λ c. after-list c .list .kept .1 .1 .1 .1 .1 .1 .1 .0) (λ c. after-list c .list .kept .1 .1 .1 .1 .1 .1 .1 .1 .0)
-    (λ c. after-find-partners c .find-partners .kept .1 .1 .1 .1 .1 .0) (λ c. after-find-partners c .find-partners .kept .1 .1 .1 .1 .0)
-    returns-2)
+    (λ c. after-list c .list .kept .1 .1 .1 .1 .1 .0)
+    (λ c. after-list c .list .kept .1 .1 .1 .1 .1 .1 .0)
+    (λ c. after-list c .list .kept .1 .1 .1 .1 .1 .1 .1 .0)
+    (λ c. after-list c .list .kept .1 .1 .1 .1 .1 .1 .1 .1 .0)
+    (λ c. after-find-partners c .find-partners .kept .1 .1 .1 .1 .0)
+    (λ c. after-find-partners c .find-partners .kept .1 .1 .1 .1 .1 .0)
+    returns)

@@ -1,72 +1,81 @@
--- `matching::match_with` meets its contract. The pairs are no more than the smaller side, so that there is room for them. Assumes nothing.
+-- `matching::match_with` meets its contract. Where the direct path is not taken the slices are as they were, and there is a square to solve. Assumes nothing.
+use mathlib.Core.Path.{_∙_}
 use borrow.Author.Needs.{needs}
 use denote.Ref.{now}
-use Rattle.assoc_matching.specs.Answers.{partnerLentWith, matchLentWith}
-use Rattle.assoc_matching.proofs.AnswerLaws.{partners-asked}
-use Rattle.assoc_matching.proofs.EndLaws.{partner-not-refused, partners-are, partners-clear}
-use Rattle.assoc_matching.proofs.PartnerLaws.{matches-room, match-done}
+use Rattle.assoc_matching.specs.Answers.{matchLentWith}
+use Rattle.assoc_matching.proofs.MatchLaws.{some-side}
+use Rattle.assoc_matching.proofs.PartnerLaws.{not-open, taken-done, ready-as, not-taken-done}
 use Rattle.assoc_matching.proofs.matching.match_with.Statement.{statement}
 use Rattle.assoc_matching.proofs.matching.match_with.Tie as tie
 
 -- The places that the answers go back to.
-abbrev after-find-partners·returns : tie.After-known-told → tie.After-find-partners
-after-find-partners·returns c = c .before .before .before .before .before .before .before
+abbrev start·match-directly-requires : tie.After-match-directly-arg2 → tie.Start
+start·match-directly-requires c = c .before .before .before .before .before .before
 
-abbrev start·returns : tie.After-known-told → tie.Start
-start·returns c = after-find-partners·returns c .before .before .before .before .before .before .before .before
+abbrev after-enum-told·match-by-lapjv-requires : tie.After-match-by-lapjv-arg3 → tie.After-enum-told
+after-enum-told·match-by-lapjv-requires c = c .before .before .before
 
-abbrev at-match-keys2 : tie.After-write-pairs-arg3 → tie.At-match-keys2
-at-match-keys2 c = c .before .before .before .before .before
+abbrev after-match-directly·match-by-lapjv-requires : tie.After-match-by-lapjv-arg3 → tie.After-match-directly
+after-match-directly·match-by-lapjv-requires c = after-enum-told·match-by-lapjv-requires c .before .before .before .before .before .before
 
-abbrev after-find-partners·write-pairs-requires : tie.After-write-pairs-arg3 → tie.After-find-partners
-after-find-partners·write-pairs-requires c = at-match-keys2 c .before .before .before .before .before
+abbrev start·match-by-lapjv-requires : tie.After-match-by-lapjv-arg3 → tie.Start
+start·match-by-lapjv-requires c = start·match-directly-requires (after-match-directly·match-by-lapjv-requires c .before)
 
-abbrev start·write-pairs-requires : tie.After-write-pairs-arg3 → tie.Start
-start·write-pairs-requires c = after-find-partners·write-pairs-requires c .before .before .before .before .before .before .before .before
+abbrev after-directly : tie.After-slice-known6 → tie.After-directly
+after-directly c = c .before .before .before .before .before
 
-abbrev after-answer2 : tie.After-slice-known8 → tie.After-answer2
-after-answer2 c = c .before .before .before .before .before .before .before .before .before
+abbrev after-match-directly·returns : tie.After-slice-known6 → tie.After-match-directly
+after-match-directly·returns c = after-directly c .before .before .before .before .before .before
 
-abbrev after-find-partners : tie.After-slice-known8 → tie.After-find-partners
-after-find-partners c = after-find-partners·write-pairs-requires (c .before .before .before .before .before)
+abbrev start·returns : tie.After-slice-known6 → tie.Start
+start·returns c = start·match-directly-requires (after-match-directly·returns c .before)
 
-abbrev start : tie.After-slice-known8 → tie.Start
-start c = start·write-pairs-requires (c .before .before .before .before .before)
+abbrev after-match-by-lapjv : tie.After-slice-known9 → tie.After-match-by-lapjv
+after-match-by-lapjv c = c .before .before .before .before .before .before
 
-write-pairs-requires : tie.Need-write-pairs-requires
-write-pairs-requires c κs =
-    let start = start·write-pairs-requires c in
-    let a = start .args in
-    let ready = start .pre .0 in
-    let lent = partnerLentWith (now (a .partner)) (now (a .work)) in
-    let partners = partners-are _ _ _ _ lent (partners-asked ready (start .pre .1)) _ (after-find-partners·write-pairs-requires c .find-partners .ensures) (c .before .before .before .before .answer2 .given .1) in
-    matches-room _ _ _ _ (ready .sides .few-rows) (ready .sides .few-cols) partners (ready .room-boxes) (ready .room-tracks)
+abbrev after-enum-told : tie.After-slice-known9 → tie.After-enum-told
+after-enum-told c = after-enum-told·match-by-lapjv-requires (after-match-by-lapjv c .before)
+
+abbrev after-match-directly : tie.After-slice-known9 → tie.After-match-directly
+after-match-directly c = after-match-directly·match-by-lapjv-requires (after-match-by-lapjv c .before)
+
+abbrev start : tie.After-slice-known9 → tie.Start
+start c = start·match-by-lapjv-requires (after-match-by-lapjv c .before)
 
 returns : tie.Need-returns
 returns c =
-    let asked = partners-asked (start·returns c .pre .0) (start·returns c .pre .1) in
-    absurd (partner-not-refused _ _ _ _ _ asked _ (after-find-partners·returns c .find-partners .ensures) (c .before .answer .given .1))
+    let a = start·returns c .args in
+    let sides = start·returns c .pre .sides in
+    taken-done (now (a .cost)) (a .nrows) (a .ncols) (a .threshold) (sides .few-rows) (sides .few-cols) (matchLentWith (now (a .boxes)) (now (a .tracks)) (now (a .work)))
+    (after-match-directly·returns c .match-directly .ensures) (after-directly c .directly .given .1) (c .before .before .clear .ensures)
+
+match-by-lapjv-requires : tie.Need-match-by-lapjv-requires
+match-by-lapjv-requires c κs =
+    let ready = start·match-by-lapjv-requires c .pre in
+    let w = not-open _ _ _ _ (after-match-directly·match-by-lapjv-requires c .match-directly .ensures) (after-enum-told·match-by-lapjv-requires c .enum-told .given .1) in
+    (ready-as _ _ _ _ (ready .sides .few-rows) (ready .sides .few-cols) w ready, some-side _ _ _ _ (w .path))
 
 returns-2 : tie.Need-returns-2
 returns-2 c =
-    let start = start c in
-    let a = start .args in
-    let ready = start .pre .0 in
-    let lent = partnerLentWith (now (a .partner)) (now (a .work)) in
-    let asked = partners-asked ready (start .pre .1) in
-    let find-partners = after-find-partners c .find-partners in
-    match-done (now (a .cost)) (a .nrows) (a .ncols) (a .threshold) (ready .sides .few-rows) (ready .sides .few-cols)
-    (matchLentWith (now (a .boxes)) (now (a .tracks)) (now (a .work)))
-    (partners-are _ _ _ _ lent asked _ (find-partners .ensures) (after-answer2 c .answer2 .given .1)) (c .before .before .before .before .write-pairs .ensures) (partners-clear _ _ _ _ lent asked (find-partners .result) (find-partners .ensures))
+    let a = start c .args in
+    let sides = start c .pre .sides in
+    not-taken-done (now (a .cost)) (a .nrows) (a .ncols) (a .threshold) (sides .few-rows) (sides .few-cols) (matchLentWith (now (a .boxes)) (now (a .tracks)) (now (a .work)))
+    (not-open _ _ _ _ (after-match-directly c .match-directly .ensures) (after-enum-told c .enum-told .given .1)) (after-match-by-lapjv c .match-by-lapjv .ensures)
 
 pub match-with-spec : {M : Type 1} → statement M
 match-with-spec =
     tie.close
     (tie.spec
-    (λ c κs. tt) (λ c. search needs) (λ c. search needs)
-    write-pairs-requires
-    (λ c. after-find-partners·returns c .find-partners .kept .1 .1 .1 .1 .1 .0) (λ c. after-find-partners·returns c .find-partners .kept .1 .1 .1 .1 .0)
+    (λ c κs. (start·match-directly-requires c .pre .sides, (start·match-directly-requires c .pre .room-boxes, start·match-directly-requires c .pre .room-tracks)))
+    (λ c. search needs)
+    (λ c κs. tt)
+    (λ c. after-match-directly·returns c .match-directly .kept .1 .1 .1 .1 .0)
+    (λ c. after-match-directly·returns c .match-directly .kept .1 .1 .1 .1 .1 .0)
+    (λ c. c .before .before .clear .kept .0)
     returns
-    (λ c. c .before .before .before .before .write-pairs .kept .1 .1 .0) (λ c. c .before .before .before .before .write-pairs .kept .1 .1 .1 .0)
-    (λ c. after-find-partners c .find-partners .kept .1 .1 .1 .1 .1 .0) (λ c. after-find-partners c .find-partners .kept .1 .1 .1 .1 .0)
+    (λ c. search needs)
+    match-by-lapjv-requires
+    (λ c. after-match-by-lapjv c .match-by-lapjv .kept .1 .1 .1 .0 ∙ after-match-directly c .match-directly .kept .1 .1 .1 .1 .0)
+    (λ c. after-match-by-lapjv c .match-by-lapjv .kept .1 .1 .1 .1 .0 ∙ after-match-directly c .match-directly .kept .1 .1 .1 .1 .1 .0)
+    (λ c. after-match-by-lapjv c .match-by-lapjv .kept .1 .1 .1 .1 .1 .0)
     returns-2)

@@ -16,10 +16,10 @@ after-hand-arg c = c .before .before .before .before .before .before .before
 abbrev after-read-on : tie.After-hand-arg8 → tie.After-read-on
 after-read-on c = after-hand-arg c .before .before .before
 
-abbrev after-boxes : tie.After-slice-known16 → tie.After-boxes
-after-boxes c = c .before .before .before .before .before .before .before
+abbrev after-out : tie.After-slice-known16 → tie.After-out
+after-out c = c .before .before .before .before .before .before .before
 
-abbrev after-hand : tie.After-boxes → tie.After-hand
+abbrev after-hand : tie.After-out → tie.After-hand
 after-hand c = c .before .before .before .before .before .before .before
 
 hand-requires : tie.Need-hand-requires
@@ -43,7 +43,7 @@ hand-requires c κs =
 
 returns : tie.Need-returns
 returns c =
-    let hand = after-hand (after-boxes c) in
+    let hand = after-hand (after-out c) in
     let read = after-read-on (hand .before) in
     let empty = read .before .before in
     record {

@@ -1,7 +1,7 @@
--- `matching::one_more` meets its contract. Assumes nothing.
+-- `direct::one_more` meets its contract. Assumes nothing.
 use native.Mathlib.Omega.{arith}
-use Rattle.assoc_matching.proofs.matching.one_more.Statement.{statement}
-use Rattle.assoc_matching.proofs.matching.one_more.Tie as tie
+use Rattle.assoc_matching.proofs.direct.one_more.Statement.{statement}
+use Rattle.assoc_matching.proofs.direct.one_more.Tie as tie
 
 returns : tie.Need-returns
 returns c = rw (c .if1 .taken)

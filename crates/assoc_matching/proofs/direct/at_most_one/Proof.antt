@@ -1,11 +1,11 @@
--- `matching::at_most_one` meets its contract. The loop's invariant: no sum before `j` is above 1. The measure is what is left of the sums. Assumes nothing.
+-- `direct::at_most_one` meets its contract. The loop's invariant: no sum before `j` is above 1. The measure is what is left of the sums. Assumes nothing.
 use mathlib.Core.Path.{refl, sym}
 use Prim.Native.Nat.{_-_}
 use native.Mathlib.Omega.{arith}
 use lib.ListN.{length, getD}
 use Rattle.laws.specs.Most.{Low, low-start, low-on, low-end, high}
-use Rattle.assoc_matching.proofs.matching.at_most_one.Statement.{statement}
-use Rattle.assoc_matching.proofs.matching.at_most_one.Tie as tie
+use Rattle.assoc_matching.proofs.direct.at_most_one.Statement.{statement}
+use Rattle.assoc_matching.proofs.direct.at_most_one.Tie as tie
 
 abbrev Inv-loop : tie.InvT-loop
 Inv-loop sums j₀ j = Low (λ i. getD sums i 0) 1 (length sums) j
