@@ -26,7 +26,7 @@ use Rattle.assoc_similarity.specs.Sizes.{after}
 use Rattle.boost_tracker_dlo.specs.declared.dlo.DloSettings.{DloSettings}
 use Rattle.boost_tracker_dlo.specs.Dlo.{similarity, threshold, maxS, coefficient, soft, shouldBoost, varying, boosted, dloConfidenceBoost}
 use Rattle.boost_tracker_dlo.specs.Private.{shapeRow, third, rowSimilarity, mostOf, softened, varied, rowScore, boostedScore, mhdLeft}
-use Rattle.boost_tracker_boosts.specs.Rows.{one-iou}
+use Rattle.boost_tracker_boosts.proofs.OneRow.{one-iou}
 use Rattle.boost_tracker_dlo.proofs.RowLaws.{one-soft, one-v1, one-v2}
 
 -- ---- a row of similarities

@@ -10,7 +10,8 @@ use Rattle.refusals.specs.declared.refusal.Verdict.the-variants.{Accepted}
 use Rattle.assoc_similarity.specs.Sizes.{ofConfidences}
 use Rattle.assoc_similarity.specs.Overlap.{softBiouBatch}
 use Rattle.assoc_similarity.specs.Shape.{shapeSimilarityV1, shapeSimilarityV2}
-use Rattle.boost_tracker_boosts.specs.Rows.{OneBox, corner, first}
+use Rattle.boost_tracker_boosts.specs.Rows.{OneBox}
+use Rattle.boost_tracker_boosts.proofs.OneRow.{corner, first}
 
 accepted-confidences : (boxes tracks detections corners confidences out : ℕ) → boxes ≤ 255 → tracks ≤ 255 → detections ≡ boxes * 4 → corners ≡ tracks * 4 → confidences ≡ tracks
     → boxes * tracks ≤ out → ofConfidences boxes tracks detections corners confidences out ≡ Accepted

@@ -25,7 +25,7 @@ use Rattle.laws.specs.Picked.{fold-picked, foldl-image, sieve-sieve, sieve-imag
 use Rattle.floats.specs.Pick.{larger}
 use Rattle.floats.specs.Single.{_⊕_, _⊖_, one}
 use Rattle.assoc_similarity.specs.Overlap.{iouBatch}
-use Rattle.boost_tracker_boosts.specs.Rows.{one-iou}
+use Rattle.boost_tracker_boosts.proofs.OneRow.{one-iou}
 use Rattle.boost_tracker_duo.specs.Duo.{iouLimit, negInfinity, isCandidate, boostCandidates, bdiou, bdiouMax, remaining, args, tmp, argsSet, argsTmp, confMax, isMost, remainingBoxes, masked, duoConfidenceBoost}
 use Rattle.boost_tracker_duo.specs.Private.{boxOf, boxesOf, own, ownMax, confWith, confRow, mostOf, remains, raisedBy, Listed, Candidates, duoOf}
 

@@ -8,7 +8,7 @@ use lib.Ieee.Bits.{nanBits-above, nanBits-is}
 use lib.Ieee.Compare.{differs-from-itself}
 use borrow.Author.Tests.{lt-ltb, le-ltb}
 use Rattle.records.specs.Field.{bits, float}
-use Rattle.records.specs.Laws.Bytes.{is-nan}
+use Rattle.records.proofs.Laws.Bytes.{is-nan}
 
 -- the tests of x
 pub number : (x : Float) → ne x x ≡ false → T (not (isNan x))

@@ -7,7 +7,7 @@ use lib.Dec.{lit<, lit≤}
 use lib.Ieee.{Float}
 use Rattle.records.specs.Field.{bits}
 use Rattle.records.specs.Text.{placesUpTo, places, digits, decimal, hex}
-use Rattle.records.specs.Laws.Digits.{quotient-below, one-place, next-place}
+use Rattle.records.proofs.Laws.Digits.{quotient-below, one-place, next-place}
 
 pub record Placing (n k rest : ℕ) : Type 0 where
   -- how many digits may follow

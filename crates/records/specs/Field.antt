@@ -1,8 +1,12 @@
 -- A field of a record, little-endian: document 01, "Records and limits". A byte is a number below 256.
 use mathlib.Core.List.{List, [], _∷_, _++_}
-use Prim.Native.Nat.{ℕ, zero, suc, _+_, _*_, _/_, _%_}
+use Prim.Native.Nat.{ℕ, zero, suc, _+_, _*_, _/_, _%_, _<_}
 use lib.Ieee.{Float, binary32, toBits, ofBits}
-use lib.ListN.{take, drop}
+use lib.ListN.{take, drop, getD}
+
+-- each element is a byte; past the end `getD` gives 0
+abbrev pub AreBytes : List ℕ → Type 0
+AreBytes l = (i : ℕ) → getD l i 0 < 256
 
 -- n in k bytes, the lowest first
 unfoldable pub littleEndian : ℕ → ℕ → List ℕ

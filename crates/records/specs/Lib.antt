@@ -1,5 +1,5 @@
 -- Records and lines. Field, Text, BoxRecord, TrackRecord and Line are the definitions, from document 01, "Records and limits"; Written says what a call that writes answers and leaves.
--- Laws has the round trips and the longest lines, Known computes the document's example, and Private is what private functions hand one another.
+-- Known computes the document's example, and Private is what private functions hand one another.
 pub mod Field
 pub mod Text
 pub mod Written
@@ -8,4 +8,3 @@ pub mod TrackRecord
 pub mod Line
 pub mod Private
 pub mod Known
-pub mod Laws

@@ -9,7 +9,7 @@ use lib.ListN.{length, drop, length-append, length-drop}
 use lib.Ieee.{Float}
 use borrow.Author.Tests.{ltb-true}
 use Rattle.laws.specs.Laid.{rows, laid, length-rows}
-use Rattle.records.specs.Laws.Lengths.{length-track}
+use Rattle.records.proofs.Laws.Lengths.{length-track}
 use Rattle.records.specs.TrackRecord.{trackBytes}
 use Rattle.records.specs.Line.{line, lineBytes, refusedLine}
 use Rattle.boost_tracker_table.specs.declared.settings.Settings.{Settings}

@@ -21,8 +21,8 @@ use Rattle.floats.specs.Power.{one, powers, powi}
 use Rattle.strack.specs.Strack.{getState, confidence}
 use Rattle.records.specs.TrackRecord.{trackBytes, trackOf}
 use Rattle.records.specs.Line.{line}
-use Rattle.records.specs.Laws.{TrackFits, track-decode}
-use Rattle.records.specs.Laws.Lengths.{length-track}
+use Rattle.records.proofs.Laws.{TrackFits, track-decode}
+use Rattle.records.proofs.Laws.Lengths.{length-track}
 use Rattle.boost_tracker_table.specs.declared.settings.Settings.{Settings}
 use Rattle.boost_tracker_verdict.specs.declared.sound.State.{State}
 use Rattle.boost_tracker_verdict.specs.declared.refusal.Verdict.the-variants.{Accepted}

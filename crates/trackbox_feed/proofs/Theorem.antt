@@ -18,7 +18,7 @@ use Rattle.records.specs.declared.track_record.TrackRecord.{TrackRecord}
 use Rattle.records.specs.BoxRecord.{boxBytes, boxValues}
 use Rattle.records.specs.Line.{line, lineBytes, refusedLine}
 use Rattle.records.specs.TrackRecord.{trackBytes}
-use Rattle.records.specs.Laws.{text-written}
+use Rattle.records.proofs.Laws.{text-written}
 use Rattle.boost_tracker_verdict.specs.declared.sound.State.{State}
 use Rattle.boost_tracker_verdict.specs.declared.refusal.Verdict.{Verdict}
 use Rattle.boost_tracker_verdict.specs.declared.refusal.Verdict.the-variants.{Accepted, Refused}

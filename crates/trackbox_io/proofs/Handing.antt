@@ -13,7 +13,7 @@ use Rattle.records.specs.declared.box_record.BoxRecord.{BoxRecord}
 use Rattle.records.specs.BoxRecord.{boxBytes}
 use Rattle.records.specs.TrackRecord.{trackBytes}
 use Rattle.records.specs.Line.{lineBytes}
-use Rattle.records.specs.Laws.Bytes.{AreBytes}
+use Rattle.records.specs.Field.{AreBytes}
 use Rattle.trackbox_stream.specs.Stream.{boxRecords}
 use Rattle.trackbox_feed.specs.declared.feed.Feed.{Feed}
 use Rattle.trackbox_feed.specs.declared.feed.Item.{Item}

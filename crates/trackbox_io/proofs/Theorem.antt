@@ -11,7 +11,7 @@ use lib.ListN.{length, drop, length-append}
 use borrow.Author.Tests.{lt-leb, ltb-false}
 use Rattle.records.specs.declared.box_record.BoxRecord.{BoxRecord}
 use Rattle.records.specs.BoxRecord.{boxBytes}
-use Rattle.records.specs.Laws.Bytes.{AreBytes}
+use Rattle.records.specs.Field.{AreBytes}
 use Rattle.trackbox_stream.specs.Stream.{boxRecords}
 use Rattle.trackbox_feed.specs.Trackbox.{trackbox}
 use Rattle.trackbox_feed.specs.Feed as calls

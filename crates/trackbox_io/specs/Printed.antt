@@ -10,7 +10,7 @@ use lib.ListN.{length, take, drop}
 use lib.Ieee.{Float}
 use Rattle.records.specs.declared.box_record.BoxRecord.{BoxRecord}
 use Rattle.records.specs.BoxRecord.{boxBytes}
-use Rattle.records.specs.Laws.Bytes.{AreBytes}
+use Rattle.records.specs.Field.{AreBytes}
 use Rattle.trackbox_stream.specs.Stream.{boxRecords}
 use Rattle.trackbox_feed.specs.Trackbox.{lentBoxes, trackbox}
 use Rattle.trackbox_feed.specs.Feed as calls

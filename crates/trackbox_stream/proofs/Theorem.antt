@@ -13,7 +13,7 @@ use Rattle.laws.specs.Every.{every}
 use Rattle.laws.specs.Tab.{tab}
 use Rattle.laws.specs.Sieve.{sieve}
 use Rattle.records.specs.declared.box_record.BoxRecord.{BoxRecord}
-use Rattle.records.specs.Laws.Bytes.{AreBytes}
+use Rattle.records.specs.Field.{AreBytes}
 use Rattle.records.specs.BoxRecord.{boxBytes}
 use Rattle.trackbox_stream.specs.declared.rules.OpenFrame.{OpenFrame}
 use Rattle.trackbox_stream.specs.declared.rules.Refusal.{Refusal}

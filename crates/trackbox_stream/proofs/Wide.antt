@@ -10,9 +10,9 @@ use borrow.Author.Tests.{lt-ltb}
 use Rattle.laws.specs.Tab.{tab}
 use Rattle.laws.specs.Every.{every, every-append}
 use Rattle.records.specs.declared.box_record.BoxRecord.{BoxRecord}
-use Rattle.records.specs.Field.{part, value}
+use Rattle.records.specs.Field.{part, value, AreBytes}
 use Rattle.records.specs.BoxRecord.{boxBytes, boxOf}
-use Rattle.records.specs.Laws.Bytes.{AreBytes, part-bytes, part-long, value-below}
+use Rattle.records.proofs.Laws.Bytes.{part-bytes, part-long, value-below}
 use Rattle.trackbox_stream.specs.Stream.{boxRecords}
 use Rattle.trackbox_stream.specs.Laws.{frameNumbers, wide}
 

@@ -8,7 +8,7 @@ use lib.ListN.{length, take, drop}
 use Rattle.laws.specs.Every.{every}
 use Rattle.records.specs.declared.box_record.BoxRecord.{BoxRecord}
 use Rattle.records.specs.BoxRecord.{boxBytes}
-use Rattle.records.specs.Laws.Bytes.{AreBytes}
+use Rattle.records.specs.Field.{AreBytes}
 use Rattle.trackbox_stream.specs.declared.rules.OpenFrame.{OpenFrame}
 use Rattle.trackbox_stream.specs.declared.rules.Refusal.{Refusal}
 use Rattle.trackbox_stream.specs.declared.rules.Next.{Next}

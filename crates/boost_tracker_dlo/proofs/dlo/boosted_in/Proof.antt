@@ -4,7 +4,7 @@ use denote.Ref.{now}
 use lib.ListN.{length}
 use mathlib.Core.Path.{_∙_, ap}
 use Rattle.boost_tracker_dlo.proofs.DloLaws.{score-is}
-use Rattle.boost_tracker_boosts.specs.Rows.{part-four, part-is}
+use Rattle.boost_tracker_boosts.proofs.OneRow.{part-four, part-is}
 use Rattle.boost_tracker_dlo.specs.Private.{boostedScore}
 use Rattle.laws.specs.Tab.{length-tab}
 use Rattle.boost_tracker_dlo.proofs.dlo.boosted_in.Statement.{statement}

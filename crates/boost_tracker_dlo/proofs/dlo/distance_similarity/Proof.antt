@@ -2,7 +2,7 @@
 use borrow.Author.Needs.{needs}
 use denote.Ref.{now}
 use mathlib.Core.Path.{_∙_}
-use Rattle.boost_tracker_boosts.specs.Rows.{matrix-filled}
+use Rattle.boost_tracker_boosts.proofs.OneRow.{matrix-filled}
 use Rattle.boost_tracker_dlo.proofs.Verdicts.{accepted-cells}
 use Rattle.boost_tracker_dlo.specs.Private.{mhdLeft}
 use Rattle.floats.specs.Single.{one}

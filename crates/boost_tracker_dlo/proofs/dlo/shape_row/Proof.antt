@@ -2,7 +2,7 @@
 use borrow.Author.Needs.{needs}
 use denote.Ref.{now}
 use mathlib.Core.Path.{_∙_, refl}
-use Rattle.boost_tracker_boosts.specs.Rows.{one-accepted, row-filled}
+use Rattle.boost_tracker_boosts.proofs.OneRow.{one-accepted, row-filled}
 use Rattle.assoc_similarity.specs.Shape.{shapeSimilarityV1, shapeSimilarityV2}
 use Rattle.boost_tracker_dlo.proofs.dlo.shape_row.Statement.{statement}
 use Rattle.boost_tracker_dlo.proofs.dlo.shape_row.Tie as tie

@@ -4,7 +4,7 @@ use denote.Ref.{now}
 use mathlib.Core.Path.{_∙_, refl}
 use Rattle.boost_tracker_dlo.proofs.DloLaws.{off, on, plain-row, rich-row-is}
 use Rattle.boost_tracker_dlo.proofs.RowLaws.{one-confident}
-use Rattle.boost_tracker_boosts.specs.Rows.{one-accepted, row-filled}
+use Rattle.boost_tracker_boosts.proofs.OneRow.{one-accepted, row-filled}
 use Rattle.assoc_similarity.specs.Overlap.{iouBatch, softBiouBatch}
 use Rattle.boost_tracker_dlo.proofs.dlo.similarity_row.Statement.{statement}
 use Rattle.boost_tracker_dlo.proofs.dlo.similarity_row.Tie as tie

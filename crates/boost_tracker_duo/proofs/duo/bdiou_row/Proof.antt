@@ -6,7 +6,7 @@ use lib.ListN.{drop, length, take}
 use mathlib.Core.Path.{_∙_, refl}
 use native.Mathlib.Omega.{arith}
 use Rattle.boost_tracker_duo.proofs.CandidateLaws.{own-filled}
-use Rattle.boost_tracker_boosts.specs.Rows.{one-accepted, part-four, part-is, row-filled}
+use Rattle.boost_tracker_boosts.proofs.OneRow.{one-accepted, part-four, part-is, row-filled}
 use Rattle.assoc_similarity.specs.Overlap.{iouBatch}
 use Rattle.boost_tracker_duo.proofs.duo.bdiou_row.Statement.{statement}
 use Rattle.boost_tracker_duo.proofs.duo.bdiou_row.Tie as tie

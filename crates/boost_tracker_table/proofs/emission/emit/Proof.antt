@@ -7,7 +7,7 @@ use lib.ListN.{length}
 use lib.Ieee.{Float}
 use denote.Ref.{now}
 use Rattle.laws.specs.Kept.{Keeping, keep-start, keep-on, keep-end}
-use Rattle.records.specs.Laws.Lengths.{length-track}
+use Rattle.records.proofs.Laws.Lengths.{length-track}
 use Rattle.records.specs.TrackRecord.{trackBytes}
 use Rattle.boost_tracker_table.specs.Table.{trackAt, placed, tracks}
 use Rattle.boost_tracker_table.proofs.Laws.{placed-room}

@@ -9,7 +9,7 @@ use Rattle.records.specs.declared.Written.{Written}
 use Rattle.records.specs.declared.Written.the-variants.{Bytes, Short}
 use Rattle.records.specs.declared.track_record.TrackRecord.{TrackRecord}
 use Rattle.records.specs.TrackRecord.{trackBytes, bytesOfTrack}
-use Rattle.records.specs.Laws.{record-fitted}
+use Rattle.records.proofs.Laws.{record-fitted}
 use Rattle.boost_tracker_table.proofs.emission.emit_one.Statement.{statement}
 use Rattle.boost_tracker_table.proofs.emission.emit_one.Tie as tie
 

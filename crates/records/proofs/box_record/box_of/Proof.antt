@@ -1,6 +1,6 @@
 -- `records::box_record::box_of` meets its contract: each field is read from its bytes. Assumes nothing.
 use borrow.Author.Needs.{needs}
-use Rattle.records.specs.Laws.Fields.{box-fields}
+use Rattle.records.proofs.Laws.Fields.{box-fields}
 use Rattle.records.proofs.box_record.box_of.Statement.{statement}
 use Rattle.records.proofs.box_record.box_of.Tie as tie
 

@@ -1,7 +1,7 @@
 -- `records::box_record::put_box` meets its contract: two writes, the second behind the first. Assumes nothing.
 use borrow.Author.Needs.{needs}
 use native.Mathlib.Omega.{arith}
-use Rattle.records.specs.Laws.Lengths.{length-le}
+use Rattle.records.proofs.Laws.Lengths.{length-le}
 use Rattle.records.proofs.Puts.{put-next, put-put, put-length}
 use Rattle.records.proofs.box_record.put_box.Statement.{statement}
 use Rattle.records.proofs.box_record.put_box.Tie as tie

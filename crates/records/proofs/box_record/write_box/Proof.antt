@@ -1,7 +1,7 @@
 -- `records::box_record::write_box` meets its contract. Assumes nothing.
 use borrow.Author.Needs.{needs}
 use borrow.Author.Tests.{lt-ltb, le-ltb}
-use Rattle.records.specs.Laws.Lengths.{length-box}
+use Rattle.records.proofs.Laws.Lengths.{length-box}
 use Rattle.records.proofs.Puts.{writes, no-write}
 use Rattle.records.proofs.box_record.write_box.Statement.{statement}
 use Rattle.records.proofs.box_record.write_box.Tie as tie

@@ -1,7 +1,7 @@
 -- `records::field::put_five` meets its contract: five writes, each behind the one before it. Assumes nothing.
 use borrow.Author.Needs.{needs}
 use native.Mathlib.Omega.{arith}
-use Rattle.records.specs.Laws.Lengths.{length-le}
+use Rattle.records.proofs.Laws.Lengths.{length-le}
 use Rattle.records.proofs.Puts.{put-next, put-put, put-length}
 use Rattle.records.proofs.field.put_five.Statement.{statement}
 use Rattle.records.proofs.field.put_five.Tie as tie

@@ -2,7 +2,7 @@
 use mathlib.Core.Path.{_∙_, ap}
 use borrow.Author.Needs.{needs}
 use Rattle.records.specs.Field.{littleEndian}
-use Rattle.records.specs.Laws.Lengths.{length-le}
+use Rattle.records.proofs.Laws.Lengths.{length-le}
 use Rattle.records.proofs.Puts.{put-part, part-length}
 use Rattle.records.proofs.field.put_u32.Statement.{statement}
 use Rattle.records.proofs.field.put_u32.Tie as tie

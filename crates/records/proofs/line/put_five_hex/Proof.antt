@@ -1,7 +1,7 @@
 -- `records::line::put_five_hex` meets its contract: five writes, each behind the one before it. Assumes nothing.
 use borrow.Author.Needs.{needs}
 use native.Mathlib.Omega.{arith}
-use Rattle.records.specs.Laws.Lengths.{length-hex-ended}
+use Rattle.records.proofs.Laws.Lengths.{length-hex-ended}
 use Rattle.records.proofs.Puts.{put-next, put-put, put-length}
 use Rattle.records.proofs.line.put_five_hex.Statement.{statement}
 use Rattle.records.proofs.line.put_five_hex.Tie as tie

@@ -2,7 +2,7 @@
 use borrow.Author.Needs.{needs}
 use native.Mathlib.Omega.{arith}
 use Rattle.records.specs.Line.{line}
-use Rattle.records.specs.Laws.Lengths.{length-line, length-decimal, length-decimal-ended}
+use Rattle.records.proofs.Laws.Lengths.{length-line, length-decimal, length-decimal-ended}
 use Rattle.records.proofs.Puts.{put-next, put-put, put-length}
 use Rattle.records.proofs.line.put_line.Statement.{statement}
 use Rattle.records.proofs.line.put_line.Tie as tie

@@ -3,7 +3,7 @@ use mathlib.Core.Path.{refl}
 use borrow.Author.Needs.{needs}
 use native.Mathlib.Omega.{arith}
 use Rattle.records.specs.Line.{refusedLine}
-use Rattle.records.specs.Laws.Lengths.{length-refused, length-decimal, length-decimal-ended}
+use Rattle.records.proofs.Laws.Lengths.{length-refused, length-decimal, length-decimal-ended}
 use Rattle.records.proofs.Puts.{put-next, put-put, put-length}
 use Rattle.records.proofs.line.put_refused.Statement.{statement}
 use Rattle.records.proofs.line.put_refused.Tie as tie

@@ -7,8 +7,8 @@ use lib.ListN.{length}
 use Rattle.records.specs.declared.track_record.TrackRecord.{TrackRecord}
 use Rattle.records.specs.Text.{places}
 use Rattle.records.specs.Line.{line}
-use Rattle.records.specs.Laws.Digits.{most-places}
-use Rattle.records.specs.Laws.Lengths.{length-line}
+use Rattle.records.proofs.Laws.Digits.{most-places}
+use Rattle.records.proofs.Laws.Lengths.{length-line}
 use Rattle.records.proofs.Puts.{writes-text, no-text}
 use Rattle.records.proofs.line.write_line.Statement.{statement}
 use Rattle.records.proofs.line.write_line.Tie as tie

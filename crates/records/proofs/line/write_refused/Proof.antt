@@ -6,8 +6,8 @@ use native.Mathlib.Omega.{arith}
 use lib.ListN.{length}
 use Rattle.records.specs.Text.{places}
 use Rattle.records.specs.Line.{refusedLine}
-use Rattle.records.specs.Laws.Digits.{most-places}
-use Rattle.records.specs.Laws.Lengths.{length-refused}
+use Rattle.records.proofs.Laws.Digits.{most-places}
+use Rattle.records.proofs.Laws.Lengths.{length-refused}
 use Rattle.records.proofs.Puts.{writes-text, no-text}
 use Rattle.records.proofs.line.write_refused.Statement.{statement}
 use Rattle.records.proofs.line.write_refused.Tie as tie

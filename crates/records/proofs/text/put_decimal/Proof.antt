@@ -2,7 +2,7 @@
 use borrow.Author.Needs.{needs}
 use native.Mathlib.Omega.{arith}
 use lib.Dec.{lit<, lit≤}
-use Rattle.records.specs.Laws.Lengths.{length-decimal}
+use Rattle.records.proofs.Laws.Lengths.{length-decimal}
 use Rattle.records.proofs.Placing.{decimal-is}
 use Rattle.records.proofs.text.put_decimal.Statement.{statement}
 use Rattle.records.proofs.text.put_decimal.Tie as tie

@@ -2,7 +2,7 @@
 use mathlib.Core.Path.{_∙_, ap}
 use borrow.Author.Needs.{needs}
 use Rattle.records.specs.Text.{digits}
-use Rattle.records.specs.Laws.Lengths.{length-digits}
+use Rattle.records.proofs.Laws.Lengths.{length-digits}
 use Rattle.records.proofs.Puts.{put-part, part-length}
 use Rattle.records.proofs.text.put_digits.Statement.{statement}
 use Rattle.records.proofs.text.put_digits.Tie as tie

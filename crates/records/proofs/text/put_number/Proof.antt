@@ -1,7 +1,7 @@
 -- `records::text::put_number` meets its contract: the byte is stored where the digits end. Assumes nothing.
 use native.Mathlib.Omega.{arith}
 use native.Mathlib.Nat.{le-of-lt}
-use Rattle.records.specs.Laws.Lengths.{length-digits}
+use Rattle.records.proofs.Laws.Lengths.{length-digits}
 use Rattle.records.proofs.Puts.{put-next, put-byte, put-length}
 use Rattle.records.proofs.text.put_number.Statement.{statement}
 use Rattle.records.proofs.text.put_number.Tie as tie

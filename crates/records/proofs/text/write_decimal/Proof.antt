@@ -3,7 +3,7 @@ use mathlib.Core.Path.{_∙_, sym}
 use borrow.Author.Needs.{needs}
 use native.Mathlib.Omega.{arith}
 use lib.Dec.{lit<, lit≤}
-use Rattle.records.specs.Laws.Lengths.{length-decimal}
+use Rattle.records.proofs.Laws.Lengths.{length-decimal}
 use Rattle.records.proofs.Placing.{decimal-is}
 use Rattle.records.proofs.Puts.{writes-text, no-text}
 use Rattle.records.proofs.text.write_decimal.Statement.{statement}

@@ -1,7 +1,7 @@
 -- `records::track_record::put_track` meets its contract: three writes, each behind the one before it. Assumes nothing.
 use borrow.Author.Needs.{needs}
 use native.Mathlib.Omega.{arith}
-use Rattle.records.specs.Laws.Lengths.{length-le}
+use Rattle.records.proofs.Laws.Lengths.{length-le}
 use Rattle.records.proofs.Puts.{put-next, put-put, put-length}
 use Rattle.records.proofs.track_record.put_track.Statement.{statement}
 use Rattle.records.proofs.track_record.put_track.Tie as tie

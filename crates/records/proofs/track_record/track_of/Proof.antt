@@ -1,6 +1,6 @@
 -- `records::track_record::track_of` meets its contract: each field is read from its bytes. Assumes nothing.
 use borrow.Author.Needs.{needs}
-use Rattle.records.specs.Laws.Fields.{track-fields}
+use Rattle.records.proofs.Laws.Fields.{track-fields}
 use Rattle.records.proofs.track_record.track_of.Statement.{statement}
 use Rattle.records.proofs.track_record.track_of.Tie as tie
 

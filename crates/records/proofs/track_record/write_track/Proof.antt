@@ -1,7 +1,7 @@
 -- `records::track_record::write_track` meets its contract. Assumes nothing.
 use borrow.Author.Needs.{needs}
 use borrow.Author.Tests.{lt-ltb, le-ltb}
-use Rattle.records.specs.Laws.Lengths.{length-track}
+use Rattle.records.proofs.Laws.Lengths.{length-track}
 use Rattle.records.proofs.Puts.{writes, no-write}
 use Rattle.records.proofs.track_record.write_track.Statement.{statement}
 use Rattle.records.proofs.track_record.write_track.Tie as tie

@@ -24,15 +24,15 @@ use Rattle.records.specs.declared.track_record.TrackAnswer.the-variants 
 use Rattle.records.specs.declared.Written.{Written}
 use Rattle.records.specs.declared.Written.the-variants as written
 use Rattle.records.specs.Written.{WritesRecord, WritesText}
-use Rattle.records.specs.Field.{littleEndian, value, bits, part}
+use Rattle.records.specs.Field.{littleEndian, value, bits, part, AreBytes}
 use Rattle.records.specs.Text.{places, decimal, hex}
 use Rattle.records.specs.BoxRecord.{boxBytes, bytesOfBox, boxOf, boxAt}
 use Rattle.records.specs.TrackRecord.{trackBytes, bytesOfTrack, trackOf, trackAt}
 use Rattle.records.specs.Line.{line, lineBytes, refusedLine}
-use Rattle.records.specs.Laws.Digits.{few-below, most-places, enough-places, fewest-places, readAs, read-digits}
-use Rattle.records.specs.Laws.Lengths.{length-box, length-track, length-decimal, length-line, length-refused}
-use Rattle.records.specs.Laws.Fields.{box-fields, track-fields}
-use Rattle.records.specs.Laws.Bytes.{AreBytes, value-le, float-le, settled, rejoin, le-part, settled-part}
+use Rattle.records.proofs.Laws.Digits.{few-below, most-places, enough-places, fewest-places, readAs, read-digits}
+use Rattle.records.proofs.Laws.Lengths.{length-box, length-track, length-decimal, length-line, length-refused}
+use Rattle.records.proofs.Laws.Fields.{box-fields, track-fields}
+use Rattle.records.proofs.Laws.Bytes.{value-le, float-le, settled, rejoin, le-part, settled-part}
 
 -- ---- a record that is written and read again is the same. The logic has one NaN, so this holds of every record that the code can hold, NaNs among its floats included.
 

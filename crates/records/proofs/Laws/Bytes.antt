@@ -11,12 +11,8 @@ use lib.Ieee.{Float, nan, inf, fin, binary32, fits, isNan, nanBits, toBits}
 use lib.Ieee.Bits.{ofBits-toBits, toBits-ofBits, toBits-lt, nanBits-is}
 use lib.ListN.{length, getD, take, drop, length-take, length-drop, List·getD-eq-default}
 use lib.Seq.{length-take-le, getD-take, getD-drop, take-add, drop-drop}
-use Rattle.records.specs.Field.{littleEndian, value, bits, float, part, floatAt}
-use Rattle.records.specs.Laws.Digits.{quotient-below}
-
--- each element is a byte; past the end `getD` gives 0
-abbrev pub AreBytes : List ℕ → Type 0
-AreBytes l = (i : ℕ) → getD l i 0 < 256
+use Rattle.records.specs.Field.{AreBytes, littleEndian, value, bits, float, part, floatAt}
+use Rattle.records.proofs.Laws.Digits.{quotient-below}
 
 -- ---- numbers
 
