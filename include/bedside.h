@@ -62,10 +62,10 @@ extern "C" {
 
 /* ---- version ---- */
 #define BEDSIDE_VERSION_MAJOR 1
-#define BEDSIDE_VERSION_MINOR 0
-#define BEDSIDE_VERSION_PATCH 1
+#define BEDSIDE_VERSION_MINOR 1
+#define BEDSIDE_VERSION_PATCH 0
 #define BEDSIDE_VERSION (BEDSIDE_VERSION_MAJOR * 10000 + BEDSIDE_VERSION_MINOR * 100 + BEDSIDE_VERSION_PATCH)
-#define BEDSIDE_VERSION_STRING "1.0.1"
+#define BEDSIDE_VERSION_STRING "1.1.0"
 
 /* ---- sizes ---- */
 #define BEDSIDE_PLACE_FLOATS 24       /* a place of the table */
@@ -175,6 +175,16 @@ typedef struct {
 
 bedside_lapjv_answer bedside_lapjv(size_t n, const double *cost, size_t cost_len, size_t *x, size_t x_len,
                                    size_t *y, size_t y_len);
+
+/* ---- overlap of a box and a track, each by its corners x1, y1, x2, y2: accepts everything ----
+ * The areas are given as they come, 0, below 0, an infinity or a NaN. */
+typedef struct {
+    float intersection; /* what is divided in a cell of bedside_iou_batch */
+    float union_area;   /* what it is divided by, also where that is not above 0 and nothing is divided */
+    float ratio;        /* the cell: 0 unless the union is above 0 */
+} bedside_overlap_areas;
+
+bedside_overlap_areas bedside_overlap(const float detection[4], const float track[4]);
 
 /* ---- pairs: 31 more than 255 boxes or tracks, 32 an input of another length than the sides say, 33 a
  * result or work slice too short; the lowest that applies is said ----

@@ -117,6 +117,7 @@ static void small_calls(void)
     bedside_pair pair = bedside_pair_predict(bedside_pair_new(bedside_powi(x, -7)));
     refusal = bedside_pair_correct(pair, bedside_confidence(9, 3, 0.9f), 1.0f).refusal;
     bedside_convert_bbox_to_z(detections, result);
+    result[4] = bedside_overlap(detections, corners).union_area;
     bedside_convert_z_to_bbox(result, corners);
 }
 

@@ -79,6 +79,9 @@ static void pairs(void)
     uint32_t refusal = bedside_iou_batch(2, 2, detections, 8, corners, 8, iou, 4);
     printf("%-15s refusal %u\n", "iou_batch", (unsigned)refusal);
     show("iou of 0, 1", iou[1]);
+    bedside_overlap_areas areas = bedside_overlap(detections, corners + 4);
+    show("shared area", areas.intersection);
+    show("of the union", areas.union_area);
 
     const bedside_associate_params params = {0.3f, 0.5f, 0.25f, 0.25f, true, false, false};
     size_t pair_boxes[2], pair_tracks[2], left_boxes[2], left_tracks[2];

@@ -70,6 +70,9 @@ fn pairs() -> Answer {
     let mut iou = [0.0; 4];
     assoc::iou_batch(&boxes, &tracks, &mut iou)?;
     show("iou of 0, 1", iou[1]);
+    let areas = assoc::overlap(&boxes[0], &tracks[1]);
+    show("shared area", areas.intersection);
+    show("of the union", areas.union_area);
 
     let mut room = Room::new(2, 2);
     let found = assoc::associate(&boxes, &tracks, &AssociateParams::default(), None, None, &mut room)?;

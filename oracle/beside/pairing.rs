@@ -4,6 +4,7 @@ use oracle::call::{self, Answer, CELL, Call, LIST, WORK};
 use crate::case::Case;
 use oracle::digest::bits;
 use oracle::inputs;
+use oracle::overlap::overlap;
 use crate::lent::Lent;
 use crate::port::{self, OfCorners};
 use oracle::random::Random;
@@ -123,7 +124,23 @@ fn of_port(call: &Call) -> Answer {
     s.back(call, words)
 }
 
+/// The areas of the first boxes and tracks of a call.
+fn areas(call: &Call) -> Result<(), String> {
+    let corners = |input: usize| call.inputs[input].as_chunks::<4>().0.iter().take(8);
+    for (d, t) in corners(0).flat_map(|d| corners(1).map(move |t| (d, t))) {
+        let port = unsafe { port::bedside_overlap(d.as_ptr(), t.as_ptr()) }.0;
+        let rust = overlap(*d, *t);
+        if port.map(bits) != rust.map(bits) {
+            return Err(format!("the areas of {d:?} and {t:?} are {port:?}, and not {rust:?}"));
+        }
+    }
+    Ok(())
+}
+
 fn agree(call: &Call) -> Found {
+    if call.routine == 0 {
+        areas(call)?;
+    }
     let (port, rust) = (of_port(call), call.answer());
     let cells = |s: &[f32]| s.iter().map(|&x| bits(x)).collect::<Vec<_>>();
     let what = if port.words != rust.words {

@@ -28,6 +28,10 @@ pub struct Params {
     pub uses: [bool; 3],
 }
 
+/// Intersection, union, ratio.
+#[repr(C)]
+pub struct OverlapAreas(pub [f32; 3]);
+
 /// p, v, A, B, C, D
 #[derive(Clone, Copy)]
 #[repr(C)]
@@ -76,6 +80,7 @@ unsafe extern "C" {
         n: usize, cost: *const f64, cost_len: usize, x: List, x_len: usize, y: List, y_len: usize,
     ) -> Lapjv;
 
+    pub fn bedside_overlap(detection: In, track: In) -> OverlapAreas;
     pub fn bedside_iou_batch(b: usize, t: usize, d: In, dn: usize, c: In, cn: usize, out: Out, n: usize) -> u32;
     pub fn bedside_shape_similarity_v1(b: usize, t: usize, d: In, dn: usize, c: In, cn: usize, out: Out, n: usize)
     -> u32;

@@ -4,7 +4,8 @@ fn main() {
     let tracker = sources::published("boost_tracker/boost_tracker.rs");
     let ruled = sources::substituted(&tracker, "jamtrack/boost_tracker.list");
     sources::put(&sources::substituted(&ruled, "jamtrack/stages.list"), "boost_tracker/boost_tracker.rs");
-    sources::take("boost_tracker/assoc.rs", "jamtrack/assoc.list");
+    let pairing = sources::substituted(&sources::published("boost_tracker/assoc.rs"), "jamtrack/assoc.list");
+    sources::put(&sources::substituted(&pairing, "jamtrack/areas.list"), "boost_tracker/assoc.rs");
     sources::take("boost_tracker/strack.rs", "jamtrack/strack.list");
     sources::take("boost_tracker/kalman_filter.rs", "jamtrack/kalman_filter.list");
     sources::take("lapjv.rs", "jamtrack/counters.list");

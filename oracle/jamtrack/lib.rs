@@ -4,6 +4,7 @@
 
 pub extern crate floats;
 
+pub mod areas;
 pub mod stages;
 
 include!(concat!(env!("OUT_DIR"), "/modules.rs"));

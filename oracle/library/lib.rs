@@ -10,6 +10,7 @@ pub mod input;
 pub mod inputs;
 pub mod lines;
 pub mod matrices;
+pub mod overlap;
 pub mod random;
 pub mod records;
 pub mod refusals;

@@ -24,6 +24,8 @@ use alloc::boxed::Box;
 use alloc::vec;
 use core::fmt;
 
+pub use crate::ffi::OverlapAreas;
+
 /// Why a pairing is turned down, with nothing changed. Where several apply, the lowest is said.
 #[derive(Clone, Copy, Debug, PartialEq, Eq, Hash)]
 #[non_exhaustive]
@@ -74,6 +76,19 @@ fn accepted(number: u32) -> Result<(), Refusal> {
         0 => Ok(()),
         _ => Err(Refusal::of(number)),
     }
+}
+
+/// The overlap of a box and a track with its areas. Accepts everything: an area is given as it comes, 0, below
+/// 0, an infinity or a NaN.
+///
+/// ```
+/// let areas = bedside::assoc::overlap(&[0.0, 0.0, 10.0, 10.0], &[5.0, 0.0, 15.0, 10.0]);
+/// assert_eq!((areas.intersection, areas.union_area), (50.0, 150.0));
+/// assert_eq!(areas.ratio.to_bits(), 0x3eaaaaab);
+/// ```
+#[must_use]
+pub fn overlap(detection: &[f32; 4], track: &[f32; 4]) -> OverlapAreas {
+    ffi::overlap(detection, track)
 }
 
 /// The overlap of each box with each track: intersection over union, 0 unless the union is above 0.

@@ -35,6 +35,18 @@ pub struct LapjvAnswer {
     pub scans: u64,
 }
 
+/// What a box and a track have in common.
+#[derive(Clone, Copy, Debug, PartialEq)]
+#[repr(C)]
+pub struct OverlapAreas {
+    /// The area that they share: what is divided in a cell of `iou_batch`.
+    pub intersection: f32,
+    /// The area of their union: what it is divided by, also where that is not above 0 and nothing is divided.
+    pub union_area: f32,
+    /// The cell: 0 unless the union is above 0.
+    pub ratio: f32,
+}
+
 #[derive(Clone, Copy)]
 #[repr(C)]
 pub struct Matched {
@@ -123,6 +135,7 @@ unsafe extern "C" {
     unsafe fn bedside_lapjv(
         n: usize, cost: *const f64, cost_len: usize, x: *mut usize, x_len: usize, y: *mut usize, y_len: usize,
     ) -> LapjvAnswer;
+    unsafe fn bedside_overlap(detection: *const f32, track: *const f32) -> OverlapAreas;
     unsafe fn bedside_iou_batch(
         boxes: usize, tracks: usize, detections: *const f32, detections_len: usize, corners: *const f32,
         corners_len: usize, out: *mut f32, out_len: usize,
@@ -186,6 +199,11 @@ pub fn convert_z_to_bbox(z: &[f32; 4]) -> [f32; 4] {
     // SAFETY: four floats are read and four are written.
     unsafe { bedside_convert_z_to_bbox(z.as_ptr(), bbox.as_mut_ptr()) };
     bbox
+}
+
+pub fn overlap(detection: &[f32; 4], track: &[f32; 4]) -> OverlapAreas {
+    // SAFETY: four floats are read from each.
+    unsafe { bedside_overlap(detection.as_ptr(), track.as_ptr()) }
 }
 
 // Below, a slice goes as its pointer and its length. It is aligned and, where the library writes to it, it is

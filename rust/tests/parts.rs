@@ -72,6 +72,20 @@ fn refused_21_to_23() {
 }
 
 #[test]
+fn overlaps() {
+    let areas = |a: [f32; 4], b: [f32; 4]| {
+        let assoc::OverlapAreas { intersection, union_area, ratio } = assoc::overlap(&a, &b);
+        [intersection, union_area, ratio]
+    };
+    assert_eq!(areas(BOXES[0], TRACKS[1]).map(f32::to_bits), [0x42480000, 0x43160000, 0x3eaaaaab]);
+    assert_eq!(areas(BOXES[0], TRACKS[2]), [0.0, 150.0, 0.0]);
+    // a width below 0: the union is, and nothing is divided
+    assert_eq!(areas([4.0, 0.0, 2.0, 10.0], [4.0, 0.0, 2.0, 10.0]), [0.0, -40.0, 0.0]);
+    let [shared, union, ratio] = areas([f32::NAN, 0.0, 10.0, 10.0], TRACKS[1]);
+    assert!(shared == 50.0 && union.is_nan() && ratio == 0.0);
+}
+
+#[test]
 fn matrices() {
     let mut iou = [7.0; 7];
     assert_eq!(assoc::iou_batch(&BOXES, &TRACKS, &mut iou), Ok(()));

@@ -18,7 +18,7 @@ confOf iouThreshold iou detConf trkConf = cond (le iouThreshold iou) (detConf �
 unfoldable pub costCell : AssociateParams → BoundingBox → BoundingBox → Float → Float → Float → Float
 unfolding confOf
 costCell params det trk detConf trkConf mhSim =
-    let iou : Float = overlap det trk in
+    let iou : Float = overlap det trk .ratio in
     let conf : Float = confOf (params .«iou_threshold») iou detConf trkConf in
     let shapeSim : Float = cond (params .«use_shape_similarity_correction») (shapeV2 det trk) (shapeV1 det trk) in
     -- step 3: lambda_iou * conf * iou

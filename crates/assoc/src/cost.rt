@@ -91,7 +91,7 @@ fn cost_cell(
 ) -> f32
     ensures { λ r. ⌜ r ≡ costCell params det trk (getD (now («detection_confidence» .entry)) i plusZero) (getD (now («track_confidence» .entry)) j plusZero) mh ⌝ }
 {
-    let iou = overlap(det, trk);
+    let iou = overlap(det, trk).ratio;
     if params.has_confidence {
         let det_conf = confidence_at(detection_confidence, i);
         let trk_conf = confidence_at(track_confidence, j);

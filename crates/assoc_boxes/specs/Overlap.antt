@@ -5,6 +5,7 @@ use lib.Ieee.{Float, binary32, ofBits, round, lt}
 use Rattle.floats.specs.Pick.{larger, smaller}
 use Rattle.floats.specs.Single.{_⊕_, _⊖_, _⊗_, _⊘_, plusZero, one}
 use Rattle.assoc_boxes.specs.declared.overlap.BoundingBox.{BoundingBox}
+use Rattle.assoc_boxes.specs.declared.overlap.OverlapAreas.{OverlapAreas}
 
 -- a box by its corners, with the width, height and area that the Rust takes from them
 abbrev pub boundingBox : Float → Float → Float → Float → BoundingBox
@@ -28,9 +29,14 @@ union det trk = det .area ⊕ trk .area ⊖ intersection det trk
 unfoldable pub ratio : Float → Float → Float
 ratio wh union = cond (lt plusZero union) (wh ⊘ union) plusZero
 
-unfoldable pub overlap : BoundingBox → BoundingBox → Float
+-- a cell's numerator, its denominator and the cell; the areas also where it does not divide
+unfoldable pub overlap : BoundingBox → BoundingBox → OverlapAreas
 unfolding intersection union ratio
-overlap det trk = ratio (intersection det trk) (union det trk)
+overlap det trk = record { intersection = intersection det trk; union = union det trk; ratio = ratio (intersection det trk) (union det trk) }
+
+-- the cell alone
+abbrev pub iou : BoundingBox → BoundingBox → Float
+iou det trk = overlap det trk .ratio
 
 -- ---- soft_biou_batch
 
@@ -56,4 +62,4 @@ constants = (refl, refl)
 
 unfoldable pub softBiou : BoundingBox → BoundingBox → Float → Float
 unfolding overlap
-softBiou det trk confidence = overlap (buffered det confidence k1) (buffered trk confidence k2)
+softBiou det trk confidence = iou (buffered det confidence k1) (buffered trk confidence k2)

@@ -42,6 +42,14 @@ fn intersection(det: BoundingBox, trk: BoundingBox) -> f32
     w * h
 }
 
+// What two boxes have in common: the numerator of a cell, its denominator, which is given also where it does not divide, and the cell.
+#[repr(C)]
+pub struct OverlapAreas {
+    pub intersection: f32,
+    pub union: f32,
+    pub ratio: f32,
+}
+
 // 0 unless the union is above 0.
 fn ratio(wh: f32, union: f32) -> f32
     ensures { λ r. ⌜ r ≡ Overlap.ratio wh union ⌝ }
@@ -49,12 +57,17 @@ fn ratio(wh: f32, union: f32) -> f32
     if union > 0.0 { wh / union } else { 0.0 }
 }
 
-// The share of two boxes' union that they have in common.
-pub fn overlap(det: BoundingBox, trk: BoundingBox) -> f32
+// The area that two boxes share, that of their union, and the share.
+pub fn overlap(det: BoundingBox, trk: BoundingBox) -> OverlapAreas
     ensures { λ r. ⌜ r ≡ Overlap.overlap det trk ⌝ }
 {
     let wh = intersection(det, trk);
-    ratio(wh, det.area + trk.area - wh)
+    let union = det.area + trk.area - wh;
+    OverlapAreas {
+        intersection: wh,
+        union,
+        ratio: ratio(wh, union),
+    }
 }
 
 // The box grown on each side by a part k of its size, the less the surer its track is.
@@ -73,5 +86,5 @@ pub fn soft_biou(det: BoundingBox, trk: BoundingBox, confidence: f32) -> f32
     overlap(
         buffered(det, confidence, 0.25),
         buffered(trk, confidence, 0.5),
-    )
+    ).ratio
 }

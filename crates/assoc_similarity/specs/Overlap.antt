@@ -6,6 +6,7 @@ use lib.ListN.{getD}
 use lib.Ieee.{Float, nan}
 use Rattle.floats.specs.Single.{plusZero}
 use Rattle.assoc_boxes.specs.Overlap.{boundingBox}
+pub use Rattle.assoc_boxes.specs.Overlap.{iou}
 use Rattle.assoc_boxes.specs.declared.overlap.BoundingBox.{BoundingBox}
 unfoldable pub use Rattle.assoc_boxes.specs.Overlap.{intersection, union, ratio, overlap, softBiou}
 
@@ -14,7 +15,7 @@ abbrev pub boxAt : List Float → ℕ → BoundingBox
 boxAt s i = boundingBox (getD s (i * 4) nan) (getD s (i * 4 + 1) nan) (getD s (i * 4 + 2) nan) (getD s (i * 4 + 3) nan)
 
 abbrev pub iouBatch : List Float → List Float → ℕ → ℕ → Float
-iouBatch detections tracks i j = overlap (boxAt detections i) (boxAt tracks j)
+iouBatch detections tracks i j = iou (boxAt detections i) (boxAt tracks j)
 
 abbrev pub softBiouBatch : List Float → List Float → List Float → ℕ → ℕ → Float
 softBiouBatch detections tracks trackConfidences i j = softBiou (boxAt detections i) (boxAt tracks j) (getD trackConfidences j plusZero)

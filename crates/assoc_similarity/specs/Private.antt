@@ -10,13 +10,13 @@ use Rattle.floats.specs.Single.{_⊕_, _⊖_, _⊘_, plusZero, one}
 use Rattle.assoc_boxes.specs.declared.overlap.BoundingBox.{BoundingBox}
 use Rattle.assoc_similarity.specs.declared.batch.Measure.{Measure}
 use Rattle.assoc_similarity.specs.declared.batch.Measure.the-variants.{Iou, SoftBiou, ShapeV1, ShapeV2}
-use Rattle.assoc_similarity.specs.Overlap.{boxAt, overlap, softBiou}
+use Rattle.assoc_similarity.specs.Overlap.{boxAt, iou, softBiou}
 use Rattle.assoc_similarity.specs.Shape.{shapeV1, shapeV2}
 use Rattle.assoc_similarity.specs.Mahalanobis.{limit}
 
 -- the cell of a measure, and its matrix
 abbrev pub measured : Measure → BoundingBox → BoundingBox → Float → Float
-measured Iou det trk confidence = overlap det trk
+measured Iou det trk confidence = iou det trk
 measured SoftBiou det trk confidence = softBiou det trk confidence
 measured ShapeV1 det trk confidence = shapeV1 det trk
 measured ShapeV2 det trk confidence = shapeV2 det trk

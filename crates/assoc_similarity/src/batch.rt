@@ -18,7 +18,7 @@ ghost use Rattle.laws.specs.Grid.{grid};
 ghost use Rattle.floats.specs.Single.{plusZero};
 ghost use Rattle.floats.specs.Exponential.{exp};
 ghost use Rattle.assoc_similarity.specs.Sizes.{ofCorners, ofConfidences, Ready, after};
-ghost use Rattle.assoc_similarity.specs.Overlap.{boxAt, overlap as overlapOf, softBiou, iouBatch, softBiouBatch};
+ghost use Rattle.assoc_similarity.specs.Overlap.{boxAt, iou, softBiou, iouBatch, softBiouBatch};
 ghost use Rattle.assoc_boxes.specs.Shape.{exponentV1, exponentV2};
 ghost use Rattle.assoc_similarity.specs.Shape.{shapeV1, shapeV2, shapeSimilarityV1, shapeSimilarityV2};
 ghost use Rattle.assoc_similarity.specs.Private.{measured, measuredBatch};
@@ -45,12 +45,12 @@ pub fn confidence_at(confidences: &[f32], j: usize) -> f32
 
 fn iou_row(det: BoundingBox, corners: &[f32], cells: &mut [f32])
     requires { ⌜ length (now corners) ≡ length (now cells) * 4 ⌝ }
-    ensures { λ _. ⌜ now (cells .exit) ≡ tab (λ j. overlapOf det (boxAt (now (corners .entry)) j)) (length (now (cells .entry))) ⌝ }
+    ensures { λ _. ⌜ now (cells .exit) ≡ tab (λ j. iou det (boxAt (now (corners .entry)) j)) (length (now (cells .entry))) ⌝ }
 {
     let tracks = cells.len();
     let mut j = 0;
     while j < tracks {
-        cells[j] = overlap(det, box_at(corners, j));
+        cells[j] = overlap(det, box_at(corners, j)).ratio;
         j += 1;
     }
 }

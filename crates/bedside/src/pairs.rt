@@ -2,10 +2,12 @@
 use assoc::AssignmentAnswer;
 use assoc::AssociateParams;
 use assoc::MatchAnswer;
+use assoc_boxes::overlap::OverlapAreas;
+use assoc_boxes::overlap::bounding_box;
 ghost use mathlib.Core.Path.{_≡_};
 ghost use lib.ListN.{length};
 ghost use Rattle.assoc_similarity.specs.Sizes.{ofCorners, ofConfidences, ofDistances};
-ghost use Rattle.assoc_similarity.specs.Overlap.{iouBatch, softBiouBatch};
+ghost use Rattle.assoc_similarity.specs.Overlap.{boxAt, overlap, iouBatch, softBiouBatch};
 ghost use Rattle.assoc_similarity.specs.Shape.{shapeSimilarityV1, shapeSimilarityV2};
 ghost use Rattle.assoc_similarity.specs.Mahalanobis.{mhDistSimilarity};
 ghost use Rattle.assoc_matching.specs.Answers.{matchLentWith, matchCall};
@@ -74,6 +76,18 @@ fn of_assignment(a: AssignmentAnswer) -> Assignment
             scans: 0,
         },
     }
+}
+
+// ---- one box and one track
+
+// The areas of a cell of iou_batch.
+#[no_mangle]
+pub extern "C" fn bedside_overlap(detection: &[f32; 4], track: &[f32; 4]) -> OverlapAreas
+    ensures { λ r. ⌜ r ≡ overlap (boxAt (now (detection .entry)) 0) (boxAt (now (track .entry)) 0) ⌝ }
+{
+    let det = bounding_box(detection[0], detection[1], detection[2], detection[3]);
+    let trk = bounding_box(track[0], track[1], track[2], track[3]);
+    assoc_boxes::overlap::overlap(det, trk)
 }
 
 // ---- matrices

@@ -26,6 +26,7 @@ fn layouts() -> Vec<Layout> {
         layout! { "bedside_pair", Pair, p, v, a, b, c, d },
         layout! { "bedside_corrected", Corrected, refusal, pair },
         layout! { "bedside_lapjv_answer", LapjvAnswer, refusal, turns, scans },
+        layout! { "bedside_overlap_areas", OverlapAreas, intersection, union_area, ratio },
         layout! { "bedside_matched", Matched, refusal, pairs, turns, scans },
         layout! {
             "bedside_assignment", Assignment, refusal, pairs, unmatched_detections, unmatched_tracks, turns, scans
@@ -64,6 +65,7 @@ fn c_type(rust: &str) -> String {
         "Pair" => "bedside_pair",
         "Corrected" => "bedside_corrected",
         "LapjvAnswer" => "bedside_lapjv_answer",
+        "OverlapAreas" => "bedside_overlap_areas",
         "Matched" => "bedside_matched",
         "Assignment" => "bedside_assignment",
         "AssociateParams" => "bedside_associate_params",
@@ -125,7 +127,7 @@ fn the_header_says_the_same() {
         eprintln!("no C compiler {compiler}: the header is not compared");
         return;
     }
-    assert!(declarations().len() >= 23);
+    assert!(declarations().len() >= 24);
     let place = PathBuf::from(env!("OUT_DIR"));
     let (source, program) = (place.join("header.c"), place.join("header"));
     fs::write(&source, c_program()).expect("the program is written");

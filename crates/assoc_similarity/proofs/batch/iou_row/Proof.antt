@@ -1,17 +1,17 @@
 -- `batch::iou_row` meets its contract. The loop's invariant: the first j cells are stored, and the others as they were. The measure is what is left of the row.
 -- Assumes nothing.
-use mathlib.Core.Path.{refl, _∙_}
+use mathlib.Core.Path.{refl}
 use Prim.Native.Nat.{_-_}
 use native.Mathlib.Nat.{le-refl}
 use native.Mathlib.Omega.{arith}
 use lib.ListN.{length}
 use Rattle.laws.specs.Tab.{Filling, fill-start, fill-on, fill-whole}
-use Rattle.assoc_similarity.specs.Overlap.{boxAt, overlap}
+use Rattle.assoc_similarity.specs.Overlap.{boxAt, iou}
 use Rattle.assoc_similarity.proofs.batch.iou_row.Statement.{statement}
 use Rattle.assoc_similarity.proofs.batch.iou_row.Tie as tie
 
 abbrev Inv-loop : tie.InvT-loop
-Inv-loop det corners cells₀ tracks j₀ cells j = Filling (λ k. overlap det (boxAt corners k)) cells₀ (length cells₀) j cells
+Inv-loop det corners cells₀ tracks j₀ cells j = Filling (λ k. iou det (boxAt corners k)) cells₀ (length cells₀) j cells
 
 abbrev μ-loop : tie.MeasureT-loop
 μ-loop det corners cells₀ tracks j₀ cells j = length cells₀ - j
@@ -19,7 +19,7 @@ abbrev μ-loop : tie.MeasureT-loop
 loop-again : tie.Need-loop-again Inv-loop μ-loop
 loop-again c =
     let test = c .before .before in
-    fill-on _ _ _ (test .before .loop .inv) (test .loop-test .taken) (le-refl _) (c .overlap .ensures ∙ rw (c .before .box-at .ensures))
+    fill-on _ _ _ (test .before .loop .inv) (test .loop-test .taken) (le-refl _) (rw (c .overlap .ensures, c .before .box-at .ensures))
 
 pub iou-row-spec : {M : Type 1} → statement M
 iou-row-spec =
