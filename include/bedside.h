@@ -177,7 +177,7 @@ bedside_lapjv_answer bedside_lapjv(size_t n, const double *cost, size_t cost_len
                                    size_t *y, size_t y_len);
 
 /* ---- overlap of a box and a track, each by its corners x1, y1, x2, y2: accepts everything ----
- * The areas are given as they come, 0, below 0, an infinity or a NaN. */
+ * The areas are given as they come, 0, below 0, an infinity or a NaN. Both may be the same four floats. */
 typedef struct {
     float intersection; /* what is divided in a cell of bedside_iou_batch */
     float union_area;   /* what it is divided by, also where that is not above 0 and nothing is divided */

@@ -12,10 +12,10 @@ use Rattle.laws.specs.Elem.{elem}
 use Rattle.laws.specs.Count.{bit}
 use Rattle.laws.specs.Occurs.{occurs}
 use Rattle.laws.specs.Over.{over, Pushed}
-use Rattle.lapjv.specs.declared.Counts.{Counts}
 use Rattle.assoc_matching.specs.Matching.{Pair, pair, boxesOf, tracksOf}
 use Rattle.assoc_matching.specs.Partners.{held, Partnered}
-use Rattle.assoc_matching.specs.Answers.{zeroed}
+use Rattle.assoc_matching.specs.declared.matching.PartnerAnswer.{PartnerAnswer}
+use Rattle.assoc_matching.specs.Answers.{zeroed, partnerNumber, partnerValues}
 use Rattle.assoc_assignment.specs.declared.assignment.Left.{Left}
 use Rattle.assoc_assignment.specs.declared.assignment.Lengths.{Lengths}
 use Rattle.assoc_assignment.specs.Assignment.{Assignment, unmatched}
@@ -23,9 +23,10 @@ use Rattle.assoc_assignment.specs.Answers.{Lists, listed, Room}
 
 -- ---- the matched pairs
 
--- for each row its column and lapjv's counts, and the work slice zero
-pub record Found (cost : List Float) (n m : ℕ) (t : Float) (work : List Float) (r : Counts) (partner : List ℕ) (work′ : List Float) : Type 0 where
-  pub pairs : Partnered cost n m t r partner
+-- accepted, with for each row its column and lapjv's counts, and the work slice zero
+pub record Found (cost : List Float) (n m : ℕ) (t : Float) (work : List Float) (r : PartnerAnswer) (partner : List ℕ) (work′ : List Float) : Type 0 where
+  pub accepted : partnerNumber r ≡ 0
+  pub pairs : Partnered cost n m t (partnerValues r) partner
   pub cleared : work′ ≡ zeroed work
 
 -- ---- the pairs that stand, or the others

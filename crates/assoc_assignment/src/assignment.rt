@@ -56,7 +56,7 @@ pub(crate) struct Lengths {
 // ---- the matched pairs
 
 // For each row its column, or ncols; and lapjv's counts. On the direct path the columns come from the costs alone, and
-// the work slice is only cleared. No call of lapjv_partners is refused here.
+// the work slice is only cleared.
 fn find_partners(
     cost: &[f32],
     nrows: usize,
@@ -64,7 +64,7 @@ fn find_partners(
     threshold: f32,
     work: &mut [f64],
     partner: &mut [u8],
-) -> lapjv::Counts
+) -> PartnerAnswer
     requires sides { ⌜ Sized nrows ncols (length (now cost)) ⌝ }
     requires square { ⌜ max nrows ncols * max nrows ncols ≤ length (now work) ⌝ }
     requires rows { ⌜ length (now partner) ≡ nrows ⌝ }
@@ -73,12 +73,9 @@ fn find_partners(
     if is_direct(nrows, ncols, cost, threshold) {
         direct_columns(ncols, cost, threshold, partner);
         clear(work);
-        return lapjv::Counts { turns: 0, scans: 0 };
+        return PartnerAnswer::Found(lapjv::Counts { turns: 0, scans: 0 });
     }
-    let PartnerAnswer::Found(counts) = lapjv_partners(nrows, ncols, cost, partner, work) else {
-        return lapjv::Counts { turns: 0, scans: 0 };
-    };
-    counts
+    lapjv_partners(nrows, ncols, cost, partner, work)
 }
 
 // ---- the pairs that stand, or the others
@@ -345,31 +342,36 @@ fn assign_with(
     left: &mut [usize],
     work: &mut [f64],
     partner: &mut [u8],
-) -> AssignmentCounts
+) -> AssignmentAnswer
     requires ready { ⌜ AssignmentReady nrows ncols (length (now iou)) (length (now cost)) (roomWith (length (now boxes)) (length (now tracks)) (length (now detections)) (length (now left))) (length (now work)) ⌝ }
     requires rows { ⌜ length (now partner) ≡ nrows ⌝ }
     ensures { λ r. ⌜ (let a = linearAssignment (now (iou .entry)) (now (cost .entry)) nrows ncols threshold in
-        callWith (Assigned r) (lentWith (now (boxes .exit)) (now (tracks .exit)) (now (detections .exit)) (now (left .exit)) (now (work .exit)))
+        callWith r (lentWith (now (boxes .exit)) (now (tracks .exit)) (now (detections .exit)) (now (left .exit)) (now (work .exit)))
         ≡ callWith (Assigned (assignmentCounts a)) (lentAfter a (lentWith (now (boxes .entry)) (now (tracks .entry)) (now (detections .entry)) (now (left .entry)) (now (work .entry))))) ⌝ }
 {
-    let counts = find_partners(cost, nrows, ncols, threshold, work, partner);
-    let lists = list(
-        iou,
-        nrows,
-        ncols,
-        threshold,
-        partner,
-        boxes,
-        tracks,
-        detections,
-        left,
-    );
-    AssignmentCounts {
-        pairs: lists.pairs,
-        detections: lists.boxes,
-        tracks: lists.tracks,
-        turns: counts.turns,
-        scans: counts.scans,
+    let answer = find_partners(cost, nrows, ncols, threshold, work, partner);
+    match answer {
+        PartnerAnswer::Refused(why) => AssignmentAnswer::Refused(why),
+        PartnerAnswer::Found(counts) => {
+            let lists = list(
+                iou,
+                nrows,
+                ncols,
+                threshold,
+                partner,
+                boxes,
+                tracks,
+                detections,
+                left,
+            );
+            AssignmentAnswer::Assigned(AssignmentCounts {
+                pairs: lists.pairs,
+                detections: lists.boxes,
+                tracks: lists.tracks,
+                turns: counts.turns,
+                scans: counts.scans,
+            })
+        }
     }
 }
 
@@ -406,7 +408,7 @@ pub fn linear_assignment(
         return AssignmentAnswer::Refused(why);
     }
     let mut partner = [0u8; 255];
-    let counts = assign_with(
+    assign_with(
         iou,
         cost,
         boxes,
@@ -418,6 +420,5 @@ pub fn linear_assignment(
         unmatched_tracks,
         work,
         &mut partner[..boxes],
-    );
-    AssignmentAnswer::Assigned(counts)
+    )
 }

@@ -17,7 +17,7 @@ use Rattle.assoc_matching.specs.declared.matching.MatchAnswer.the-varian
 use Rattle.assoc_matching.specs.declared.matching.PartnerAnswer.{PartnerAnswer}
 use Rattle.assoc_matching.specs.declared.matching.PartnerAnswer.the-variants as partner-answer
 use Rattle.assoc_matching.specs.Matching.{simple, Matched, matchDetections}
-use Rattle.assoc_matching.specs.Answers.{Call, zeroed, PartnerLent, partnerLentWith, partnerCallWith, partnerVerdict, partnerCall, MatchLent, matchLentAfter, matchCounts, matchCallWith, matchVerdict, matchCall}
+use Rattle.assoc_matching.specs.Answers.{Call, zeroed, PartnerLent, partnerLentWith, partnerNumber, partnerValues, partnerCallWith, partnerVerdict, partnerCall, MatchLent, matchLentAfter, matchCounts, matchCallWith, matchVerdict, matchCall}
 use Rattle.assoc_matching.specs.Partners.{countsOf, solution, solvedColumn, partnerOf, Partnered, PartnerReady}
 use Rattle.assoc_matching.specs.Private.{Solution}
 use Rattle.assoc_matching.proofs.AnswerLaws.{partner-accepted}
@@ -40,20 +40,15 @@ module _ (boxes tracks : ℕ) (cost : List Float) (l : PartnerLent) where
     accepted : sought ≡ Accepted
     accepted = partner-accepted ready
 
-    pub partner-not-refused : {why : Refusal} → r ≡ partner-answer.Refused why → ⊥
+    pub partner-says : partnerNumber r ≡ 0
     unfolding partnerCall
-    partner-not-refused {why} e = none why (ap (λ (c : Call Counts PartnerLent). c .number) (rw e at call) ∙ rw accepted)
-      where
-        none : (why : Refusal) → number why ≡ 0 → ⊥
-        none TooMany q = omega arith
-        none OtherSize q = omega arith
-        none TooShort q = omega arith
+    partner-says = ap (λ (c : Call Counts PartnerLent). c .number) call ∙ rw accepted
 
     -- and where the direct path is not open, what it finds are the pairs
-    pub partners-are : (t : Float) → simple cost boxes tracks t ≡ false → {k : Counts} → r ≡ partner-answer.Found k → Partnered cost boxes tracks t k (after .partner)
+    pub partners-are : (t : Float) → simple cost boxes tracks t ≡ false → Partnered cost boxes tracks t (partnerValues r) (after .partner)
     unfolding partnerCall
-    partners-are t s {k} e =
-        let counts : k ≡ countsOf (solution cost boxes tracks) = ap (λ (c : Call Counts PartnerLent). c .counts) (rw e at call) ∙ rw accepted in
+    partners-are t s =
+        let counts : partnerValues r ≡ countsOf (solution cost boxes tracks) = ap (λ (c : Call Counts PartnerLent). c .counts) call ∙ rw accepted in
         let partners : after .partner ≡ tab (solvedColumn cost boxes tracks) boxes = ap (λ (c : Call Counts PartnerLent). c .lent .partner) call ∙ rw accepted in
         record {
           counts = counts ∙ rw s;
@@ -63,6 +58,18 @@ module _ (boxes tracks : ℕ) (cost : List Float) (l : PartnerLent) where
     pub partners-clear : after .work ≡ zeroed (l .work)
     unfolding partnerCall
     partners-clear = ap (λ (c : Call Counts PartnerLent). c .lent .work) call ∙ rw accepted
+
+-- what a caller reads off an answer: its counts, and that one with the number 0 is no refusal
+pub partners-found : {cost : List Float} {n m : ℕ} {t : Float} {r : PartnerAnswer} {k : Counts} {partner : List ℕ} → r ≡ partner-answer.Found k → Partnered cost n m t (partnerValues r) partner → Partnered cost n m t k partner
+partners-found e w = record { counts = sym (ap partnerValues e) ∙ w .counts; partners = w .partners }
+
+pub partner-not-refused : {r : PartnerAnswer} {why : Refusal} → partnerNumber r ≡ 0 → r ≡ partner-answer.Refused why → ⊥
+partner-not-refused {r} {why} z e = none why (rw e at z)
+  where
+    none : (why : Refusal) → number why ≡ 0 → ⊥
+    none TooMany q = omega arith
+    none OtherSize q = omega arith
+    none TooShort q = omega arith
 
 module _ (boxes tracks : ℕ) (cost : List Float) (threshold : Float) (l : MatchLent) where
   abbrev verdict : Verdict

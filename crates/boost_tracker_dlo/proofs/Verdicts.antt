@@ -12,7 +12,7 @@ use Rattle.refusals.proofs.Laws.{passed, few-sides, same-size}
 use Rattle.boost_tracker_boosts.specs.Sizes.{otherBoxes}
 use Rattle.boost_tracker_boosts.proofs.Laws.{boxes-fit}
 use Rattle.boost_tracker_dlo.specs.Sizes.{ofStates, ofDlo, otherTracks}
-use Rattle.boost_tracker_dlo.specs.Private.{Stated, Measured, DloReady}
+use Rattle.boost_tracker_dlo.specs.Private.{Stated, Measured}
 
 -- three sizes, as they are tested
 fits : (a a′ b b′ c c′ : ℕ) → ((not (eqb a a′) || not (eqb b b′)) || not (eqb c c′)) ≡ false → (a ≡ a′) × (b ≡ b′) × (c ≡ c′)
@@ -26,6 +26,14 @@ stated boxes tracks detections x sigma out e =
     let a = passed (tooMany boxes tracks) ((not (eqb detections (boxes * 4)) || not (eqb x (tracks * 4))) || not (eqb sigma (tracks * 4))) (ltb out (boxes * tracks)) e in
     let s = fits detections (boxes * 4) x (tracks * 4) sigma (tracks * 4) (a .sized) in
     record { detections-fit = s .0; x-fits = s .1; sigma-fits = s .2; room = ltb-false out (boxes * tracks) (a .enough) }
+
+pub record DloReady (boxes tracks detections trks confs since distance scores : ℕ) : Type 0 where
+  pub measured : Measured boxes tracks distance
+  pub detections-fit : detections ≡ boxes * 4
+  pub trks-fit : trks ≡ tracks * 4
+  pub confs-fit : confs ≡ tracks
+  pub since-fits : since ≡ tracks
+  pub scores-fit : scores ≡ boxes
 
 pub dlo-ready : (boxes tracks detections trks confs since distance scores : ℕ) → ofDlo boxes tracks detections trks confs since distance scores ≡ Accepted
     → DloReady boxes tracks detections trks confs since distance scores

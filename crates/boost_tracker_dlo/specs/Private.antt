@@ -95,11 +95,3 @@ pub record Measured (boxes tracks distance : ℕ) : Type 0 where
 -- what the boost leaves in the place of the distances
 unfoldable pub mhdLeft : Bool → ℕ → ℕ → List Float → List Float
 mhdLeft rich boxes tracks distance = cond rich (grid (mhDistSimilarity distance one boxes tracks) boxes tracks distance) distance
-
-pub record DloReady (boxes tracks detections trks confs since distance scores : ℕ) : Type 0 where
-  pub measured : Measured boxes tracks distance
-  pub detections-fit : detections ≡ boxes * 4
-  pub trks-fit : trks ≡ tracks * 4
-  pub confs-fit : confs ≡ tracks
-  pub since-fits : since ≡ tracks
-  pub scores-fit : scores ≡ boxes

@@ -165,7 +165,7 @@ fn row_score(q: DloSettings, row: &[f32], since: &[u32], score: f32) -> f32
 // ---- all boxes
 
 // The new score of box i; its row of similarities is computed in `row`, with `sbiou` beside it.
-fn boosted_in(
+fn boosted(
     q: DloSettings,
     detections: &[f32],
     trks: &[f32],
@@ -195,34 +195,36 @@ fn boosted_in(
     row_score(q, row, since, score)
 }
 
-fn boosted(
+fn boost_rows_with(
     q: DloSettings,
     detections: &[f32],
     trks: &[f32],
     confs: &[f32],
     mhd: &[f32],
     since: &[u32],
-    i: usize,
-    score: f32,
-) -> f32
-    requires { ⌜ Framed i (length (now detections)) (length (now trks)) (length (now confs)) (length (now mhd)) (length (now since)) ⌝ }
-    ensures { λ r. ⌜ r ≡ Private.boostedScore q (now (detections .entry)) (now (trks .entry)) (now (confs .entry)) (now (mhd .entry)) (now (since .entry)) i score ⌝ }
+    scores: &mut [f32],
+    sbiou: &mut [f32],
+    row: &mut [f32],
+)
+    requires { ⌜ Private.Ready (length (now detections)) (length (now trks)) (length (now confs)) (length (now mhd)) (length (now since)) (length (now scores)) × ((length (now sbiou) ≡ length (now since)) × (length (now row) ≡ length (now since))) ⌝ }
+    ensures { λ _. ⌜ now (scores .exit) ≡ tab (λ i. Private.boostedScore q (now (detections .entry)) (now (trks .entry)) (now (confs .entry)) (now (mhd .entry)) (now (since .entry)) i (getD (now (scores .entry)) i nan)) (length (now (scores .entry))) ⌝ }
 {
-    let tracks = since.len();
-    let mut sbiou = [0.0f32; 255];
-    let mut row = [0.0f32; 255];
-    boosted_in(
-        q,
-        detections,
-        trks,
-        confs,
-        mhd,
-        since,
-        i,
-        score,
-        &mut sbiou[..tracks],
-        &mut row[..tracks],
-    )
+    let mut i = 0;
+    while i < scores.len() {
+        scores[i] = boosted(
+            q,
+            detections,
+            trks,
+            confs,
+            mhd,
+            since,
+            i,
+            scores[i],
+            sbiou,
+            row,
+        );
+        i += 1;
+    }
 }
 
 fn boost_rows(
@@ -237,11 +239,20 @@ fn boost_rows(
     requires { ⌜ Private.Ready (length (now detections)) (length (now trks)) (length (now confs)) (length (now mhd)) (length (now since)) (length (now scores)) ⌝ }
     ensures { λ _. ⌜ now (scores .exit) ≡ tab (λ i. Private.boostedScore q (now (detections .entry)) (now (trks .entry)) (now (confs .entry)) (now (mhd .entry)) (now (since .entry)) i (getD (now (scores .entry)) i nan)) (length (now (scores .entry))) ⌝ }
 {
-    let mut i = 0;
-    while i < scores.len() {
-        scores[i] = boosted(q, detections, trks, confs, mhd, since, i, scores[i]);
-        i += 1;
-    }
+    let tracks = since.len();
+    let mut sbiou = [0.0f32; 255];
+    let mut row = [0.0f32; 255];
+    boost_rows_with(
+        q,
+        detections,
+        trks,
+        confs,
+        mhd,
+        since,
+        scores,
+        &mut sbiou[..tracks],
+        &mut row[..tracks],
+    );
 }
 
 // Only the rich similarity looks at the distances, and is put over them.
@@ -253,28 +264,6 @@ fn distance_similarity(rich: bool, boxes: usize, tracks: usize, distance: &mut [
         assoc_similarity::mh_dist_similarity_over(boxes, tracks, 1.0, distance);
         return;
     }
-}
-
-fn dlo(
-    q: DloSettings,
-    boxes: usize,
-    tracks: usize,
-    detections: &[f32],
-    trks: &[f32],
-    confs: &[f32],
-    since: &[u32],
-    distance: &mut [f32],
-    scores: &mut [f32],
-)
-    requires { ⌜ Private.DloReady boxes tracks (length (now detections)) (length (now trks)) (length (now confs)) (length (now since)) (length (now distance)) (length (now scores)) ⌝ }
-    ensures left { λ _. ⌜ now (distance .exit) ≡ Private.mhdLeft (q .rich) boxes tracks (now (distance .entry)) ⌝ }
-    ensures boosted { λ _. ⌜ now (scores .exit) ≡ Dlo.dloConfidenceBoost q (now (detections .entry)) (now (trks .entry)) (now (confs .entry)) (cellAt nan tracks (now (distance .entry))) (λ j. getD (now (since .entry)) j 0) boxes tracks (now (scores .entry)) ⌝ }
-{
-    distance_similarity(q.rich, boxes, tracks, distance);
-    if tracks == 0 {
-        return;
-    }
-    boost_rows(q, detections, trks, confs, distance, since, scores);
 }
 
 // The scores of boxes that are like a track are raised. For each track there are four corners in trks, its confidence in confs and its time since update in since.
@@ -307,16 +296,10 @@ pub fn dlo_confidence_boost(
     let Verdict::Accepted = verdict else {
         return verdict;
     };
-    dlo(
-        q,
-        boxes,
-        tracks,
-        detections,
-        trks,
-        confs,
-        since,
-        distance,
-        scores,
-    );
+    distance_similarity(q.rich, boxes, tracks, distance);
+    if tracks == 0 {
+        return verdict;
+    }
+    boost_rows(q, detections, trks, confs, distance, since, scores);
     verdict
 }

@@ -1,4 +1,4 @@
--- What the fixed lists are made of and compared by: docs/ORACLE.md, "Records" and "The pairing". Known has worked examples; Lent is a law for programs that lend parts of arrays.
+-- What the fixed lists are made of and compared by: docs/ORACLE.md, "Records" and "The pairing". Known has worked examples.
 pub mod Random
 pub mod Floats
 pub mod Digest
@@ -7,4 +7,3 @@ pub mod Line
 pub mod Cells
 pub mod Held
 pub mod Known
-pub mod Lent

@@ -1,7 +1,7 @@
 -- `lapjv_vectors::refuse` meets its contract: each length lent is within its array. Assumes nothing.
 use native.Mathlib.Omega.{arith}
 use borrow.Author.Needs.{needs}
-use Rattle.vectors.specs.Lent.{lent}
+use Rattle.vectors.proofs.Lending.{lent}
 use Rattle.lapjv_vectors.proofs.refuse.Statement.{statement}
 use Rattle.lapjv_vectors.proofs.refuse.Tie as tie
 

@@ -3,7 +3,7 @@ use Prim.Native.Nat.{ℕ, _*_, _≤_}
 use native.Mathlib.Nat.{mul-le-mul}
 use native.Mathlib.Omega.{arith}
 use borrow.Author.Needs.{needs}
-use Rattle.vectors.specs.Lent.{lent}
+use Rattle.vectors.proofs.Lending.{lent}
 use Rattle.lapjv_vectors.proofs.side.Statement.{statement}
 use Rattle.lapjv_vectors.proofs.side.Tie as tie
 

@@ -1,10 +1,10 @@
 -- `assignment::find_partners` meets its contract. Where the direct path is not open there is a square to solve, and lapjv_partners is asked what it accepts. Assumes nothing.
-use borrow.Author.Needs.{needs}
 use denote.Ref.{now}
+use mathlib.Core.Path.{refl}
 use Rattle.assoc_matching.specs.Answers.{partnerLentWith}
 use Rattle.assoc_matching.proofs.DirectLaws.{direct-open, direct-closed}
 use Rattle.assoc_matching.proofs.PartnerLaws.{partnered-direct}
-use Rattle.assoc_matching.proofs.EndLaws.{partner-not-refused, partners-are, partners-clear}
+use Rattle.assoc_matching.proofs.EndLaws.{partner-says, partners-are, partners-clear}
 use Rattle.assoc_assignment.proofs.AnswerLaws.{partners-asked}
 use Rattle.assoc_assignment.proofs.assignment.find_partners.Statement.{statement}
 use Rattle.assoc_assignment.proofs.assignment.find_partners.Tie as tie
@@ -19,40 +19,27 @@ then1 c = after-direct-columns c .before .before
 abbrev start·returns : tie.After-slice-known4 → tie.Start
 start·returns c = then1 c .before .before .before .before .before
 
-abbrev after-lapjv-partners·returns-2 : tie.After-enum-told → tie.After-lapjv-partners
-after-lapjv-partners·returns-2 c = c .before .before .before .before .before .before
-
-abbrev else1·returns-2 : tie.After-enum-told → tie.Else1
-else1·returns-2 c = after-lapjv-partners·returns-2 c .before .before .before
-
-abbrev start·returns-2 : tie.After-enum-told → tie.Start
-start·returns-2 c = else1·returns-2 c .before .before .before .before .before
-
-abbrev after-lapjv-partners : tie.After-known-told → tie.After-lapjv-partners
-after-lapjv-partners c = c .before .before .before .before .before .before .before
-
-abbrev else1 : tie.After-known-told → tie.Else1
-else1 c = after-lapjv-partners c .before .before .before
-
-abbrev start : tie.After-known-told → tie.Start
-start c = else1 c .before .before .before .before .before
-
 returns : tie.Need-returns
 returns c =
     let start = start·returns c in
     let taken = direct-open _ _ _ _ (start .pre .0) (then1 c .before .is-direct .ensures) (then1 c .if1 .taken) in
-    record { pairs = partnered-direct _ _ _ _ (now (start .args .partner)) (start .pre .0) (start .pre .1 .1) taken (after-direct-columns c .direct-columns .ensures); cleared = c .before .before .clear .ensures }
+    record {
+      accepted = refl;
+      pairs = partnered-direct _ _ _ _ (now (start .args .partner)) (start .pre .0) (start .pre .1 .1) taken (after-direct-columns c .direct-columns .ensures);
+      cleared = c .before .before .clear .ensures;
+    }
+
+abbrev after-lapjv-partners : tie.After-slice-known6 → tie.After-lapjv-partners
+after-lapjv-partners c = c .before .before .before .before
+
+abbrev else1 : tie.After-slice-known6 → tie.Else1
+else1 c = after-lapjv-partners c .before .before .before
+
+abbrev start : tie.After-slice-known6 → tie.Start
+start c = else1 c .before .before .before .before .before
 
 returns-2 : tie.Need-returns-2
 returns-2 c =
-    let start = start·returns-2 c in
-    let a = start .args in
-    let closed = direct-closed _ _ _ _ (start .pre .0) (else1·returns-2 c .before .is-direct .ensures) (else1·returns-2 c .if1 .left) in
-    let asked = partners-asked (now (a .cost)) _ _ _ (start .pre .0) closed (start .pre .1 .0) (start .pre .1 .1) in
-    absurd (partner-not-refused _ _ _ (partnerLentWith (now (a .partner)) (now (a .work))) asked _ (after-lapjv-partners·returns-2 c .lapjv-partners .ensures) (c .enum-told .given .1))
-
-returns-3 : tie.Need-returns-3
-returns-3 c =
     let start = start c in
     let a = start .args in
     let lent = partnerLentWith (now (a .partner)) (now (a .work)) in
@@ -60,7 +47,8 @@ returns-3 c =
     let closed = direct-closed _ _ _ _ (start .pre .0) (else1 c .before .is-direct .ensures) (else1 c .if1 .left) in
     let asked = partners-asked (now (a .cost)) _ _ _ (start .pre .0) closed (start .pre .1 .0) (start .pre .1 .1) in
     record {
-      pairs = partners-are _ _ _ lent asked _ (solved .ensures) (a .threshold) closed (c .before .counts .given .1);
+      accepted = partner-says _ _ _ lent asked (solved .result) (solved .ensures);
+      pairs = partners-are _ _ _ lent asked (solved .result) (solved .ensures) (a .threshold) closed;
       cleared = partners-clear _ _ _ lent asked (solved .result) (solved .ensures);
     }
 
@@ -75,11 +63,6 @@ find-partners-spec =
     (λ c. after-direct-columns c .direct-columns .kept .1 .1 .1 .0)
     returns
     (λ c κs. tt)
-    (λ c. search needs)
-    (λ c. search needs)
-    (λ c. after-lapjv-partners·returns-2 c .lapjv-partners .kept .1 .1 .1 .1 .0)
-    (λ c. after-lapjv-partners·returns-2 c .lapjv-partners .kept .1 .1 .1 .0)
-    returns-2
     (λ c. after-lapjv-partners c .lapjv-partners .kept .1 .1 .1 .1 .0)
     (λ c. after-lapjv-partners c .lapjv-partners .kept .1 .1 .1 .0)
-    returns-3)
+    returns-2)
