@@ -61,11 +61,11 @@ extern "C" {
 #endif
 
 /* ---- version ---- */
-#define BEDSIDE_VERSION_MAJOR 1
-#define BEDSIDE_VERSION_MINOR 1
+#define BEDSIDE_VERSION_MAJOR 2
+#define BEDSIDE_VERSION_MINOR 0
 #define BEDSIDE_VERSION_PATCH 0
 #define BEDSIDE_VERSION (BEDSIDE_VERSION_MAJOR * 10000 + BEDSIDE_VERSION_MINOR * 100 + BEDSIDE_VERSION_PATCH)
-#define BEDSIDE_VERSION_STRING "1.1.0"
+#define BEDSIDE_VERSION_STRING "2.0.0"
 
 /* ---- sizes ---- */
 #define BEDSIDE_PLACE_FLOATS 24       /* a place of the table */
@@ -275,10 +275,12 @@ typedef struct {
     bool use_shape_similarity_correction;
     bool use_soft_boost;
     bool use_varying_threshold;
+    bool cap_confidence; /* a confidence above 1 is written to out as 1; all else is the same as without it */
 } bedside_settings;
 
 /* The Rust's new: lambdas 0.5, 0.25 and 0.25, dlo_boost_coef 0.65; both boosts and the shape similarity
- * correction on, the other three off. Its with_ options are these fields. */
+ * correction on, the other three off. Its with_ options are these fields. cap_confidence, which the Rust does not
+ * have, is off. */
 bedside_settings bedside_settings_new(float det_thresh, float iou_threshold, uint64_t max_age, uint64_t min_hits);
 
 /* What stands beside the lent table, all 0 before the first frame. */
@@ -352,7 +354,7 @@ typedef struct {
     float top;
     float width;
     float height;
-    float confidence; /* from age 7 on 0.9 to the power -1, which is above 1 */
+    float confidence; /* no NaN; from age 7 on 0.9 to the power -1, which is above 1, or with cap_confidence 1 */
 } bedside_track;
 
 static inline uint32_t bedside_u32_at(const uint8_t *bytes)

@@ -195,6 +195,7 @@ static size_t frames(void)
         if (k % 12 == 0)
             memset(&state, 0, sizeof state);
         settings.use_rich_similarity = settings.use_soft_boost = settings.use_varying_threshold = k >= FRAMES / 2;
+        settings.cap_confidence = k % 2 == 0;
         make_boxes((size_t)(chance() * (float)(PLACES + 1 - state.count)));
         most = larger(most, taken(update));
     }

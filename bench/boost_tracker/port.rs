@@ -9,6 +9,7 @@ pub struct Settings {
     min_hits: u64,
     /// DLO, DUO, rich, corrected shape, soft, varying
     uses: [bool; 6],
+    cap_confidence: bool,
 }
 
 #[repr(C)]

@@ -2,7 +2,7 @@
 
 use crate::case::Case;
 use oracle::digest::bits;
-use oracle::frame::{Answer, Record, Table, needed};
+use oracle::frame::{Answer, CAP, Record, Table, needed};
 use crate::lent::Lent;
 use crate::port::{self, Updated};
 use oracle::random::Random;
@@ -59,7 +59,7 @@ fn settings(s: &Settings) -> port::Settings {
         floats: [s.det_thresh, s.iou_threshold, iou, mhd, shape, s.dlo_boost_coef],
         max_age: s.max_age,
         min_hits: s.min_hits,
-        uses: [on(1), on(2), on(4), !on(32), on(8), on(16)],
+        uses: [on(1), on(2), on(4), !on(32), on(8), on(16), on(CAP)],
     }
 }
 

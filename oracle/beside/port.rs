@@ -49,8 +49,8 @@ pub struct Settings {
     pub floats: [f32; 6],
     pub max_age: u64,
     pub min_hits: u64,
-    /// DLO, DUO, rich, corrected shape, soft, varying
-    pub uses: [bool; 6],
+    /// DLO, DUO, rich, corrected shape, soft, varying; and cap_confidence
+    pub uses: [bool; 7],
 }
 
 #[repr(C)]

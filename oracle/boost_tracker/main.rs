@@ -1,5 +1,5 @@
-//! The published tracker on the scenes and single calls of crates/boost_tracker_vectors, and for what the port turns
-//! down, the numbers of the scope document:
+//! The published tracker on the scenes and single calls of crates/boost_tracker_vectors; for what the port turns down,
+//! the numbers of the scope document; and for scenes with capped confidences the published records, each capped:
 //!
 //!     stdin          the records that it reads
 //!     vectors        what it has to print
@@ -7,11 +7,11 @@
 //!     whole SCENE    the boxes, records and tracks of one scene, in bits
 
 use oracle::digest::bits;
-use oracle::frame::{Answer, Table};
+use oracle::frame::{Answer, CAP, Table};
 use oracle::lines;
 use oracle::records::Records;
 use oracle::refusals::{self, Single};
-use oracle::scenes::{self, KINDS, SCENES, Scene};
+use oracle::scenes::{self, CAPPED, KINDS, SCENES, Scene};
 use std::io::Write;
 
 /// What is done with the frames of a scene.
@@ -21,12 +21,23 @@ trait Audience {
 }
 
 fn name(scene: &Scene) -> String {
-    format!("scene {} {}", scene.number, KINDS[scene.kind])
+    let capped = if scene.settings.flags & CAP == 0 { "" } else { " capped" };
+    format!("scene {} {}{capped}", scene.number, KINDS[scene.kind])
 }
 
 /// Works a scene, and hands each frame on.
 fn play(s: usize, audience: &mut impl Audience) {
+    play_scene(scenes::scene(s), audience);
+}
+
+/// The same scene with confidences capped: the boxes, the lengths and the table are those without.
+fn play_capped(s: usize, audience: &mut impl Audience) {
     let mut scene = scenes::scene(s);
+    scene.settings.flags |= CAP;
+    play_scene(scene, audience);
+}
+
+fn play_scene(mut scene: Scene, audience: &mut impl Audience) {
     let mut table = scene.start();
     audience.begins(&name(&scene), &table);
     for f in 0..scene.frames {
@@ -37,7 +48,7 @@ fn play(s: usize, audience: &mut impl Audience) {
     }
 }
 
-/// Every scene and every single call.
+/// Every scene, every single call and the scenes with capped confidences.
 fn play_all(audience: &mut impl Audience) {
     (0..SCENES).for_each(|s| play(s, audience));
     for Single { mask, mut table, boxes, lengths } in refusals::all() {
@@ -45,6 +56,7 @@ fn play_all(audience: &mut impl Audience) {
         let answer = table.update(&boxes, lengths);
         audience.frame(&boxes, &table, &answer, lengths);
     }
+    CAPPED.iter().for_each(|&s| play_capped(s, audience));
 }
 
 // ---- the fixed list

@@ -12,7 +12,7 @@ pub struct Settings {
     pub dlo_boost_coef: f32,
     pub max_age: u64,
     pub min_hits: u64,
-    /// 1 DLO, 2 DUO, 4 rich, 8 soft, 16 varying, 32 shape v1
+    /// 1 DLO, 2 DUO, 4 rich, 8 soft, 16 varying, 32 shape v1; others are not the published tracker's
     pub flags: u64,
 }
 

@@ -9,6 +9,9 @@ use jamtrack_rs::object::Object;
 use jamtrack_rs::rect::Rect;
 use jamtrack_rs::stages::{self, Stages};
 
+/// The flag of the port's setting cap_confidence, of which the published tracker knows nothing.
+pub const CAP: u64 = 64;
+
 /// An emitted track: frame, id, and left, top, width, height, confidence.
 pub struct Record {
     pub frame: u32,
@@ -21,6 +24,12 @@ impl Record {
     pub fn bytes(&self) -> Vec<u8> {
         let floats = self.floats.map(|x| x.to_le_bytes()).concat();
         [&self.frame.to_le_bytes()[..], &self.id.to_le_bytes(), &floats].concat()
+    }
+
+    /// As the setting cap_confidence has it: "an emitted confidence above 1 is written as 1".
+    fn capped(self) -> Record {
+        let [left, top, width, height, confidence] = self.floats;
+        if confidence > 1.0 { Record { floats: [left, top, width, height, 1.0], ..self } } else { self }
     }
 }
 
@@ -138,7 +147,8 @@ impl Table {
             id: o.get_track_id().expect("an id") as u64,
             floats: [o.get_x(), o.get_y(), o.get_width(), o.get_height(), o.get_prob()],
         };
-        let records = emitted.iter().map(record).collect();
+        let cap = self.settings.flags & CAP != 0;
+        let records = emitted.iter().map(record).map(|r| if cap { r.capped() } else { r }).collect();
         Answer { refusal: 0, index: 0, records, turns: counts.turns, scans: counts.scans, finite, stages }
     }
 }

@@ -26,6 +26,10 @@ const FADE: usize = 14;
 pub const SCENES: usize = 80;
 const LARGE: usize = 72;
 
+/// Those that are worked once more with confidences capped: from an empty table, with gaps in the tracks, from a table
+/// that holds tracks, and with refused frames.
+pub const CAPPED: [usize; 6] = [0, 2, 10, 16, 25, 36];
+
 // ---- numbers
 
 /// 16 of a random number's bits, from 0 to 65535.

@@ -27,7 +27,7 @@ pub fn settings(random: &Random) -> Settings {
         dlo_boost_coef: random.pick(&[0.65, 0.65, 0.8, 1.0, 1.5 * c]),
         max_age: random.pick(&[30, 30, 0, 1, 3, 8, u64::MAX]),
         min_hits: random.pick(&[3, 3, 0, 1, 5, u64::MAX]),
-        flags: random.below(64),
+        flags: random.below(128),
     }
 }
 

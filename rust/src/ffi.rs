@@ -96,6 +96,7 @@ pub struct Settings {
     pub use_shape_similarity_correction: bool,
     pub use_soft_boost: bool,
     pub use_varying_threshold: bool,
+    pub cap_confidence: bool,
 }
 
 #[derive(Clone, Copy, Debug, Default, PartialEq, Eq)]

@@ -20,7 +20,8 @@ pub struct Settings(pub(crate) ffi::Settings);
 
 impl Settings {
     /// The settings of `BoostTracker::new`: weights 0.5, 0.25 and 0.25, a DLO coefficient of 0.65; both boosts
-    /// and the shape similarity's correction on, rich similarity, soft boost and varying threshold off.
+    /// and the shape similarity's correction on, rich similarity, soft boost and varying threshold off; and
+    /// confidences as they are, not capped.
     ///
     /// * `det_thresh`: boxes whose score, after both boosts, is below it are left out.
     /// * `iou_threshold`: a box and a track whose overlap is below it are not paired.
@@ -72,6 +73,13 @@ impl Settings {
     pub fn with_dlo_boost_coef(self, dlo_boost_coef: f32) -> Settings {
         Settings(ffi::Settings { dlo_boost_coef, ..self.0 })
     }
+
+    /// Whether a confidence above 1 is put out as 1, so that every one is from 0 to 1. All else is the same as
+    /// without it: ids, places, and which boxes and tracks are paired. `BoostTracker` has no such option.
+    #[must_use]
+    pub fn with_cap_confidence(self, cap_confidence: bool) -> Settings {
+        Settings(ffi::Settings { cap_confidence, ..self.0 })
+    }
 }
 
 impl fmt::Debug for Settings {
@@ -101,6 +109,7 @@ mod tests {
         use_shape_similarity_correction: true,
         use_soft_boost: false,
         use_varying_threshold: false,
+        cap_confidence: false,
     };
 
     #[test]
@@ -118,5 +127,7 @@ mod tests {
         let first = ffi::Settings { use_shape_similarity_correction: false, ..NEW };
         assert_eq!(new.with_shape_similarity_v1().0, first);
         assert_eq!(new.with_dlo_boost_coef(0.5).0, ffi::Settings { dlo_boost_coef: 0.5, ..NEW });
+        assert_eq!(new.with_cap_confidence(true).0, ffi::Settings { cap_confidence: true, ..NEW });
+        assert_eq!(new.with_cap_confidence(true).with_cap_confidence(false).0, NEW);
     }
 }

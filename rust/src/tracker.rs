@@ -52,7 +52,8 @@ pub struct Track {
     pub width: f32,
     /// The height.
     pub height: f32,
-    /// The confidence, which grows with the track's age and can be above 1: 1.11 just after a match.
+    /// The confidence, which grows with the track's age and can be above 1: 1.11 just after a match, or with
+    /// [`with_cap_confidence`](Settings::with_cap_confidence) 1 then.
     pub confidence: f32,
 }
 

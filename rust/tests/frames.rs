@@ -30,6 +30,22 @@ fn the_scope_documents_example() {
 }
 
 #[test]
+fn a_capped_confidence_is_at_most_one_and_all_else_the_same() {
+    let mut plain = Tracker::new(settings());
+    let mut capped = Tracker::new(settings().with_cap_confidence(true));
+    for frame in 1..=12 {
+        let (was, is) = (tracks(&mut plain, &row(3)), tracks(&mut capped, &row(3)));
+        assert_eq!(was[0].confidence > 1.0, frame > 7);
+        let rule = |mut track: Track| {
+            track.confidence = track.confidence.min(1.0);
+            track
+        };
+        assert_eq!(is, was.into_iter().map(rule).collect::<Vec<_>>());
+        assert_eq!(capped.last_id(), plain.last_id());
+    }
+}
+
+#[test]
 fn what_is_known_beside_the_tracks() {
     let mut tracker = Tracker::new(settings());
     assert_eq!((tracker.frame_count(), tracker.held_tracks(), tracker.last_id()), (0, 0, 0));

@@ -37,7 +37,7 @@ use Rattle.boost_tracker.specs.Private.{FinishRoom, Ending, endingWith, 
 -- the records of all tracks, which have room, then the retired and the cleared table
 pub finish-is : (s : Settings) (state : State) (a : Advanced) (f : List Float) (c out : List ℕ) {f₁ f₂ : List Float} {c₁ c₂ out′ : List ℕ} {count put : ℕ}
     → FinishRoom state (a .started) (capacity (length f) (length c)) (length out / trackBytes)
-    → Emitted (tracks f c (min (state .count + a .started) (length out / trackBytes))) (state .frames + 1) (s .«min_hits») out out′ put
+    → Emitted (tracks f c (min (state .count + a .started) (length out / trackBytes))) (state .frames + 1) (s .«min_hits») (s .«cap_confidence») out out′ put
     → Retired f c (state .count + a .started) (s .«max_age») f₁ c₁ count → Emptied f₁ c₁ (tracks f₁ c₁ count) f₂ c₂
     → callWith (answerOf state a count put) (endingWith f₂ c₂ out′) ≡ finished s state a (endingWith f c out)
 unfolding finished
@@ -136,7 +136,7 @@ module _ (s : Settings) (state : State) (f : List Float) (c : List ℕ) (boxes :
 
     -- step 8 over what steps 1 to 7 leave
     finished-is : finished s state (acceptedAdvance g) (record { table = laidOver (g .started .trackers) (tableWith f c); output = out })
-        ≡ callWith (acceptedAnswer g) (record { table = holding (g .retained) (tableWith f c); output = laid (recordBytes (g .frameCount)) trackBytes (g .output) out })
+        ≡ callWith (acceptedAnswer g) (record { table = holding (g .retained) (tableWith f c); output = laid (recordBytes (s .«cap_confidence») (g .frameCount)) trackBytes (g .output) out })
     unfolding finished update steps
     finished-is =
         let xs : List Track = g .started .trackers in

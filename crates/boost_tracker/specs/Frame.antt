@@ -1,4 +1,5 @@
 -- What a call of `update` answers and leaves in lent memory: document 01, "When a call is turned down". The verdict is the table's; g is the definition's value.
+use mathlib.Core.Bool.{Bool}
 use mathlib.Core.List.{List}
 use Prim.Native.Nat.{ℕ}
 use lib.ListN.{length}
@@ -38,11 +39,11 @@ pub record Memory : Type 0 where
 abbrev pub memoryWith : List Float → List ℕ → List ℕ → List Float → List Float → Memory
 memoryWith floats counters output work64 work32 = record { table = tableWith floats counters; output = output; work64 = work64; work32 = work32 }
 
--- the retained tracks in the table, zero in every place beyond them; the records of the output over the front; and zeros in the work slices
-abbrev pub memoryAfter : Stages → Memory → Memory
-memoryAfter g m = record {
+-- the retained tracks in the table, zero in every place beyond them; the records of the output over the front, as cap, the setting cap_confidence, has them written; and zeros in the work slices
+abbrev pub memoryAfter : Bool → Stages → Memory → Memory
+memoryAfter cap g m = record {
   table = holding (g .retained) (m .table);
-  output = laid (recordBytes (g .frameCount)) trackBytes (g .output) (m .output);
+  output = laid (recordBytes cap (g .frameCount)) trackBytes (g .output) (m .output);
   work64 = zeroed (m .work64);
   work32 = cleared (m .work32);
 }
@@ -61,4 +62,4 @@ unfoldable pub updated : Settings → State → List Float → Memory → Call U
 updated s state boxes m =
     let v : Verdict = verdictOf s state boxes m in
     let g : Stages = worked s state boxes m in
-    whereAccepted v (callWith (acceptedAnswer g) (memoryAfter g m)) (callWith (refusedAnswer v state) m)
+    whereAccepted v (callWith (acceptedAnswer g) (memoryAfter (s .«cap_confidence») g m)) (callWith (refusedAnswer v state) m)

@@ -42,4 +42,4 @@ finished s state a m =
     let all : List Track = tracksIn (m .table) (state .count + a .started) in
     let stay : List Track = retained (s .«max_age») all in
     let put : List Track = emitted (state .frames + 1) (s .«min_hits») all in
-    callWith (answerOf state a (length stay) (length put)) (record { table = holding stay (m .table); output = laid (recordBytes (state .frames + 1)) trackBytes put (m .output) })
+    callWith (answerOf state a (length stay) (length put)) (record { table = holding stay (m .table); output = laid (recordBytes (s .«cap_confidence») (state .frames + 1)) trackBytes put (m .output) })

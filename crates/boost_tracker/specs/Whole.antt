@@ -65,4 +65,4 @@ pub record TurnedDown (n bad : ℕ) (state : State) (m : Memory) (r : UpdateAnsw
 pub data WholeOrTurnedDown (s : Settings) (state : State) (boxes : List Float) (m : Memory) (r : UpdateAnswer) (m′ : Memory) : Type 0 where
   turned-down : 11 ≤ first (conditions s state boxes m) → TurnedDown (first (conditions s state boxes m)) (lowestBad s state boxes m) state m r m′ → WholeOrTurnedDown s state boxes m r m′
   -- the answer and each cell of memory are the definition's
-  whole : first (conditions s state boxes m) ≡ 0 → r ≡ acceptedAnswer (worked s state boxes m) → m′ ≡ memoryAfter (worked s state boxes m) m → WholeOrTurnedDown s state boxes m r m′
+  whole : first (conditions s state boxes m) ≡ 0 → r ≡ acceptedAnswer (worked s state boxes m) → m′ ≡ memoryAfter (s .«cap_confidence») (worked s state boxes m) m → WholeOrTurnedDown s state boxes m r m′

@@ -45,6 +45,7 @@ fn finish(
         all,
         frame as u32,
         settings.min_hits,
+        settings.cap_confidence,
         out,
     );
     let count = boost_tracker_table::retire(floats, counters, all, settings.max_age);

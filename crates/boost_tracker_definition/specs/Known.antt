@@ -1,4 +1,5 @@
 -- Document 01's first example, computed by the definition: the box 10, 20, 32, 64 with score 0.75, alone in frame 1 of an empty table. A box below the threshold starts no track, and one at the threshold does.
+-- And a confidence of the boosts and the pairing above 1: it is not capped, whatever the setting cap_confidence has written to the output.
 use mathlib.Core.Path.{_≡_, refl}
 use mathlib.Core.List.{List, [], _∷_, map}
 use Prim.Native.Nat.{ℕ}
@@ -16,7 +17,7 @@ use Rattle.boost_tracker_verdict.specs.declared.sound.State.{State}
 use Rattle.boost_tracker_table.specs.Settings.{new}
 use Rattle.boost_tracker_table.specs.Table.{Track}
 use Rattle.boost_tracker_table.specs.Record.{recordOf}
-use Rattle.boost_tracker_definition.specs.Update.{Stages, bboxes, scores, trks, confs, afterDlo, afterDuo, remainInds, detBboxes, detScores, mhDist, result, matched, started, steps, update, stateAfter}
+use Rattle.boost_tracker_definition.specs.Update.{Stages, xyxyOf, bboxes, scores, trks, confs, afterDlo, afterDuo, remainInds, detBboxes, detScores, mhDist, result, matched, started, steps, update, stateAfter}
 
 -- trackbox's settings
 abbrev settings : Settings
@@ -41,7 +42,12 @@ shown t =
 abbrev first : ℕ → Stages
 first score = update settings empty (box score) []
 
+-- a track of age 7 with time since update 0: predicted ones, as a frame has them here, have 1 or more, so that of these none is above 1
+abbrev seen : Track
+seen = record { kf = newTrack (xyxyOf (box 0) 0) 1 .kf; id = 1; since = 0; streak = 3; age = 7 }
+
 pub known : (map shown (first 0x3f40_0000 .output) ≡ (1 ∷ 1 ∷ 0x4120_0000 ∷ 0x41a0_0000 ∷ 0x4200_0000 ∷ 0x4280_0000 ∷ 0x3ef4_e351 ∷ []) ∷ []) × (counts (first 0x3f40_0000) ≡ 1 ∷ 1 ∷ 1 ∷ [])
     × (counts (first 0x3f00_0000) ≡ 0 ∷ 0 ∷ 1 ∷ []) × (counts (first 0x3f19_999a) ≡ 1 ∷ 1 ∷ 1 ∷ [])
+    × (map (toBits binary32) (confs (seen ∷ [])) ≡ 0x3f8e_38e4 ∷ [])
 unfolding update steps bboxes scores trks confs afterDlo afterDuo remainInds detBboxes detScores mhDist result associate matched started tab rows sieve recordOf newTrack getState widthOf confidence powi ofBits toBits add sub mul div le
-known = (refl, refl, refl, refl)
+known = (refl, refl, refl, refl, refl)

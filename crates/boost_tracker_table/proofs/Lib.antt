@@ -1,3 +1,4 @@
--- Laws is for callers of the functions on the table, Walks what the proofs here share. Assumes nothing.
+-- Laws is for callers of the functions on the table, ConfidenceLaws says which confidences are put out, Walks is what the proofs here share. Assumes nothing.
 pub mod Laws
+pub mod ConfidenceLaws
 pub mod Walks

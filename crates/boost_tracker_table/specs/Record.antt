@@ -1,9 +1,10 @@
--- What boost_tracker.rs emits of a track, lines 365-382, as a track record.
+-- What boost_tracker.rs emits of a track, lines 365-382, as a track record, and the record that is written of it.
 use mathlib.Core.Path.{_≡_, refl}
-use mathlib.Core.Bool.{false}
+use mathlib.Core.Bool.{Bool, false, cond}
 use mathlib.Core.List.{List}
 use Prim.Native.Nat.{ℕ}
-use lib.Ieee.{Float, binary32, ofBits, round}
+use lib.Ieee.{Float, binary32, ofBits, round, lt}
+use Rattle.floats.specs.Single.{one}
 use Rattle.records.specs.declared.track_record.TrackRecord.{TrackRecord}
 use Rattle.records.specs.TrackRecord.{bytesOfTrack}
 use Rattle.strack.specs.declared.rect.Rect.{Rect}
@@ -33,6 +34,23 @@ recordOf frame t =
       confidence = getConfidence t nineTenths;
     }
 
+-- ---- the record that is written: with the setting cap_confidence, "an emitted confidence above 1 is written as 1"
+
+-- a NaN is not above 1
+abbrev pub atMostOne : Float → Float
+atMostOne confidence = cond (lt one confidence) one confidence
+
+abbrev pub written : Bool → TrackRecord → TrackRecord
+written cap r = record {
+  frame = r .frame;
+  id = r .id;
+  left = r .left;
+  top = r .top;
+  width = r .width;
+  height = r .height;
+  confidence = cond cap (atMostOne (r .confidence)) (r .confidence);
+}
+
 -- its bytes
-abbrev pub recordBytes : ℕ → Track → List ℕ
-recordBytes frame t = bytesOfTrack (recordOf frame t)
+abbrev pub recordBytes : Bool → ℕ → Track → List ℕ
+recordBytes cap frame t = bytesOfTrack (written cap (recordOf frame t))

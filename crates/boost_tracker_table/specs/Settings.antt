@@ -1,4 +1,5 @@
 -- The settings of a tracker: boost_tracker.rs, `new`, lines 73-101, and the `with_` options, lines 108-180; ECC's are left out. In the Rust `..self` keeps every other field.
+-- The last field is not the Rust's: cap_confidence, under which an emitted confidence above 1 is written as 1. Only the records that are written know it.
 use mathlib.Core.Path.{_≡_, refl}
 use mathlib.Core.Bool.{Bool, true, false}
 use Prim.Native.Nat.{ℕ}
@@ -36,6 +37,7 @@ new detThresh iouThreshold maxAge minHits = record {
   «use_shape_similarity_correction» = true;
   «use_soft_boost» = false;
   «use_varying_threshold» = false;
+  «cap_confidence» = false;
 }
 
 abbrev pub withLambdas : Settings → Float → Float → Float → Settings
@@ -54,6 +56,7 @@ withLambdas s lambdaIou lambdaMhd lambdaShape = record {
   «use_shape_similarity_correction» = s .«use_shape_similarity_correction»;
   «use_soft_boost» = s .«use_soft_boost»;
   «use_varying_threshold» = s .«use_varying_threshold»;
+  «cap_confidence» = s .«cap_confidence»;
 }
 
 -- s with these switches: dlo boost, duo boost, rich similarity, shape similarity correction, soft boost, varying threshold
@@ -73,6 +76,7 @@ switched s dlo duo rich correction soft varying = record {
   «use_shape_similarity_correction» = correction;
   «use_soft_boost» = soft;
   «use_varying_threshold» = varying;
+  «cap_confidence» = s .«cap_confidence»;
 }
 
 abbrev pub withBoost : Settings → Bool → Bool → Settings
@@ -86,3 +90,22 @@ withBoostPlusPlus s = switched s (s .«use_dlo_boost») (s .«use_duo_boost») t
 
 abbrev pub withShapeSimilarityV1 : Settings → Settings
 withShapeSimilarityV1 s = switched s (s .«use_dlo_boost») (s .«use_duo_boost») (s .«use_rich_similarity») false (s .«use_soft_boost») (s .«use_varying_threshold»)
+
+abbrev pub withCapConfidence : Settings → Bool → Settings
+withCapConfidence s capConfidence = record {
+  «det_thresh» = s .«det_thresh»;
+  «iou_threshold» = s .«iou_threshold»;
+  «lambda_iou» = s .«lambda_iou»;
+  «lambda_mhd» = s .«lambda_mhd»;
+  «lambda_shape» = s .«lambda_shape»;
+  «dlo_boost_coef» = s .«dlo_boost_coef»;
+  «max_age» = s .«max_age»;
+  «min_hits» = s .«min_hits»;
+  «use_dlo_boost» = s .«use_dlo_boost»;
+  «use_duo_boost» = s .«use_duo_boost»;
+  «use_rich_similarity» = s .«use_rich_similarity»;
+  «use_shape_similarity_correction» = s .«use_shape_similarity_correction»;
+  «use_soft_boost» = s .«use_soft_boost»;
+  «use_varying_threshold» = s .«use_varying_threshold»;
+  «cap_confidence» = capConfidence;
+}

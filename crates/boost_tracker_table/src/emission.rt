@@ -1,6 +1,7 @@
 // The tracks that a frame puts out: boost_tracker.rs, lines 363-383, as records in table order.
 use crate::place::track_at;
 use crate::record::record_of;
+use crate::record::written;
 use crate::table::placed;
 use records::TRACK_BYTES;
 use records::Written;
@@ -24,15 +25,22 @@ fn emits(t: KalmanBoxTracker, frame: u32, hits: u64) -> bool
     (t.since < 1) & ((t.streak >= hits) | (frame as u64 <= hits))
 }
 
-// Writes the track's record at place w, if it is put out; w after that.
-fn emit_one(t: KalmanBoxTracker, w: usize, frame: u32, hits: u64, out: &mut [u8]) -> usize
+// Writes the track's record at place w, if it is put out; w after that. `cap` is the setting cap_confidence.
+fn emit_one(
+    t: KalmanBoxTracker,
+    w: usize,
+    frame: u32,
+    hits: u64,
+    cap: bool,
+    out: &mut [u8],
+) -> usize
     requires { ⌜ w < length (now out) / trackBytes ⌝ }
     ensures count { λ r. ⌜ r ≡ cond (emits frame hits t) (w + 1) w ⌝ }
-    ensures bytes { λ _. ⌜ now (out .exit) ≡ cond (emits frame hits t) (splice (now (out .entry)) (w * trackBytes) (recordBytes frame t)) (now (out .entry)) ⌝ }
+    ensures bytes { λ _. ⌜ now (out .exit) ≡ cond (emits frame hits t) (splice (now (out .entry)) (w * trackBytes) (recordBytes cap frame t)) (now (out .entry)) ⌝ }
 {
     if emits(t, frame, hits) {
         // There is room, so it is never short.
-        let Written::Bytes(_) = write_track(record_of(frame, t), w, out) else {
+        let Written::Bytes(_) = write_track(written(record_of(frame, t), cap), w, out) else {
             return w;
         };
         return w + 1;
@@ -47,9 +55,10 @@ pub fn emit(
     held: usize,
     frame: u32,
     hits: u64,
+    cap: bool,
     out: &mut [u8],
 ) -> usize
-    ensures { λ r. ⌜ Emitted (tracks (now (floats .entry)) (now (counters .entry)) (min held (length (now (out .entry)) / trackBytes))) frame hits (now (out .entry)) (now (out .exit)) r ⌝ }
+    ensures { λ r. ⌜ Emitted (tracks (now (floats .entry)) (now (counters .entry)) (min held (length (now (out .entry)) / trackBytes))) frame hits cap (now (out .entry)) (now (out .exit)) r ⌝ }
 {
     let n = placed(
         floats.len(),
@@ -59,7 +68,7 @@ pub fn emit(
     let mut w = 0;
     let mut i = 0;
     while i < n {
-        w = emit_one(track_at(floats, counters, i), w, frame, hits, out);
+        w = emit_one(track_at(floats, counters, i), w, frame, hits, cap, out);
         i += 1;
     }
     w

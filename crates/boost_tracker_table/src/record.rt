@@ -1,9 +1,9 @@
-// What the Rust's update emits of a track, as a track record: boost_tracker.rs, lines 365-382.
+// What the Rust's update emits of a track, as a track record: boost_tracker.rs, lines 365-382; and the record as it is written.
 use records::TrackRecord;
 use strack::rect::Rect;
 use strack::strack::KalmanBoxTracker;
 ghost use mathlib.Core.Path.{_≡_};
-ghost use Rattle.boost_tracker_table.specs.Record.{recordOf};
+ghost use Rattle.boost_tracker_table.specs.Record.{recordOf, written};
 
 pub(crate) fn record_of(frame: u32, t: KalmanBoxTracker) -> TrackRecord
     ensures { λ r. ⌜ r ≡ recordOf frame t ⌝ }
@@ -19,4 +19,15 @@ pub(crate) fn record_of(frame: u32, t: KalmanBoxTracker) -> TrackRecord
         height: rect.height,
         confidence: t.get_confidence(0.9),
     }
+}
+
+// The record that is written of r: under the setting cap_confidence a confidence above 1 is 1, and a NaN is not above 1.
+pub(crate) fn written(mut r: TrackRecord, cap: bool) -> TrackRecord
+    ensures { λ o. ⌜ o ≡ written cap r ⌝ }
+{
+    if cap & (r.confidence > 1.0) {
+        r.confidence = 1.0;
+        return r;
+    }
+    r
 }

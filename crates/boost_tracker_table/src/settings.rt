@@ -1,6 +1,6 @@
-// The settings of a tracker, boost_tracker.rs: `new` and the `with_` options but ECC's. Each returns the settings that it changed.
+// The settings of a tracker, boost_tracker.rs: `new` and the `with_` options but ECC's, and cap_confidence, which the Rust does not have. Each returns the settings that it changed.
 ghost use mathlib.Core.Path.{_≡_};
-ghost use Rattle.boost_tracker_table.specs.Settings.{new as newSettings, withLambdas, withBoost, withBoostPlus, withBoostPlusPlus, withShapeSimilarityV1};
+ghost use Rattle.boost_tracker_table.specs.Settings.{new as newSettings, withLambdas, withBoost, withBoostPlus, withBoostPlusPlus, withShapeSimilarityV1, withCapConfidence};
 
 #[repr(C)]
 pub struct Settings {
@@ -18,6 +18,8 @@ pub struct Settings {
     pub use_shape_similarity_correction: bool,
     pub use_soft_boost: bool,
     pub use_varying_threshold: bool,
+    // an emitted confidence above 1 is written as 1
+    pub cap_confidence: bool,
 }
 
 impl Settings {
@@ -39,6 +41,7 @@ impl Settings {
             use_shape_similarity_correction: true,
             use_soft_boost: false,
             use_varying_threshold: false,
+            cap_confidence: false,
         }
     }
 
@@ -79,6 +82,13 @@ impl Settings {
         ensures { λ r. ⌜ r ≡ withShapeSimilarityV1 self ⌝ }
     {
         self.use_shape_similarity_correction = false;
+        self
+    }
+
+    pub fn with_cap_confidence(mut self, cap_confidence: bool) -> Settings
+        ensures { λ r. ⌜ r ≡ withCapConfidence self «cap_confidence» ⌝ }
+    {
+        self.cap_confidence = cap_confidence;
         self
     }
 }

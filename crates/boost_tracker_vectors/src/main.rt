@@ -2,11 +2,11 @@
 // is given and of all that it leaves. oracle/boost_tracker/run writes both files, stdin by its own rules and stdout by
 // the published tracker.
 //
-// A record is its kind and words. 0 lends a table: flags (1 DLO, 2 DUO, 4 rich, 8 soft, 16 varying, 32 shape v1),
-// det_thresh, iou_threshold, the three weights, dlo_boost_coef, max_age, min_hits; count, last id and frame count; how
-// many floats and how many counters are lent, and how many of each follow, the others being 7; then a title, these
-// floats and these counters. 1 is a frame over the table as it was left: how many floats its boxes have, the lengths of
-// output and both work slices, then the boxes.
+// A record is its kind and words. 0 lends a table: flags (1 DLO, 2 DUO, 4 rich, 8 soft, 16 varying, 32 shape v1,
+// 64 capped confidences), det_thresh, iou_threshold, the three weights, dlo_boost_coef, max_age, min_hits; count, last
+// id and frame count; how many floats and how many counters are lent, and how many of each follow, the others being 7;
+// then a title, these floats and these counters. 1 is a frame over the table as it was left: how many floats its boxes
+// have, the lengths of output and both work slices, then the boxes.
 use boost_tracker::Settings;
 use boost_tracker::State;
 use boost_tracker::UpdateAnswer;
@@ -41,6 +41,7 @@ fn settings(w: &[u64; 16]) -> Settings {
         use_shape_similarity_correction: w[0] / 32 % 2 == 0,
         use_soft_boost: w[0] / 8 % 2 == 1,
         use_varying_threshold: w[0] / 16 % 2 == 1,
+        cap_confidence: w[0] / 64 % 2 == 1,
     }
 }
 

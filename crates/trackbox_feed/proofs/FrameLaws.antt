@@ -1,6 +1,6 @@
 -- Each return of `work_task` for a frame is the definition's case of its verdict. Assumes nothing.
 use mathlib.Core.Path.{_≡_, refl, sym, ap, subst, _∙_}
-use mathlib.Core.Bool.{true}
+use mathlib.Core.Bool.{true, false}
 use mathlib.Core.List.{List}
 use Prim.Native.Nat.{ℕ, _+_, _-_, _*_, _/_, _≤_}
 use native.Mathlib.Nat.{zero-add}
@@ -34,7 +34,7 @@ accepts why q = let z : _≡_ {A = ℕ} 0 1 = cc in omega arith
 
 -- what `update` answers and leaves by a verdict v
 abbrev By : Verdict → State → Stages → Memory → UpdateAnswer → Memory → Type 0
-By v state g m r m′ = callWith r m′ ≡ whereAccepted v (callWith (acceptedAnswer g) (memoryAfter g m)) (callWith (refusedAnswer v state) m)
+By v state g m r m′ = callWith r m′ ≡ whereAccepted v (callWith (acceptedAnswer g) (memoryAfter false g m)) (callWith (refusedAnswer v state) m)
 
 module _ (state : State) (g : Stages) (m : Memory) {m′ : Memory} {r : UpdateAnswer} (nth : ℕ) {text text′ : List ℕ} {n : ℕ} where
   by-refusal : {k : ℕ} (v : Verdict) → By v state g m r m′ → (why : Refusal) → r .verdict ≡ Refused why → k ≡ answer (r .verdict) .0
@@ -46,18 +46,18 @@ module _ (state : State) (g : Stages) (m : Memory) {m′ : Memory} {r : UpdateAn
       rw (left, p .cells, p .ends ∙ zero-add (length (refusedLine k nth)), same)
 
   by-acceptance : {k : ℕ} {st : State} (v : Verdict) → By v state g m r m′ → r .verdict ≡ Accepted → k ≡ r .emitted → st ≡ r .state
-      → linesIn (laid (recordBytes (g .frameCount)) trackBytes (g .output) (m .output)) (length (g .output)) ≡ rows line (recordsOf g)
+      → linesIn (laid (recordBytes false (g .frameCount)) trackBytes (g .output) (m .output)) (length (g .output)) ≡ rows line (recordsOf g)
       → Put 0 (linesIn (m′ .output) k) text n text′ → workWith (Done st n) (record { memory = m′; text = text′ }) ≡ workBy v nth g (record { memory = m; text = text })
   by-acceptance {k} {st} Accepted l q e d lines p =
       let count : k ≡ length (g .output) = e ∙ ap (λ (c : Call UpdateAnswer Memory). c .answer .emitted) l in
       let then : st ≡ stateAfter g = d ∙ ap (λ (c : Call UpdateAnswer Memory). c .answer .state) l in
-      let left : m′ ≡ memoryAfter g m = ap (λ (c : Call UpdateAnswer Memory). c .lent) l in
+      let left : m′ ≡ memoryAfter false g m = ap (λ (c : Call UpdateAnswer Memory). c .lent) l in
       let said : linesIn (m′ .output) k ≡ rows line (recordsOf g) = rw (left, count) lines in
       rw (left, p .cells, p .ends ∙ zero-add (length (linesIn (m′ .output) k)), said, then)
   by-acceptance (Refused other) l q e d lines p = absurd (accepts other (sym q ∙ ap (λ (c : Call UpdateAnswer Memory). c .answer .verdict) l))
 
 -- which verdict it was
-judged-so : (v : Verdict) (state : State) (g : Stages) (m : Memory) → whereAccepted v (callWith (acceptedAnswer g) (memoryAfter g m)) (callWith (refusedAnswer v state) m) .answer .verdict ≡ v
+judged-so : (v : Verdict) (state : State) (g : Stages) (m : Memory) → whereAccepted v (callWith (acceptedAnswer g) (memoryAfter false g m)) (callWith (refusedAnswer v state) m) .answer .verdict ≡ v
 judged-so Accepted state g m = refl
 judged-so (Refused why) state g m = refl
 
@@ -97,9 +97,9 @@ module _ (s : Settings) (is : s ≡ settings) (state : State) (nth : ℕ) (b : L
     emitted-room {k} e kept room =
         let out : List ℕ = m .output in
         let count : k ≡ length (g .output) = e ∙ ap (λ (c : Call UpdateAnswer Memory). c .answer .emitted) leaves in
-        let long : length (rows (recordBytes (g .frameCount)) (g .output)) ≡ length (g .output) * trackBytes = length-rows (recordBytes (g .frameCount)) trackBytes (λ t. length-track (recordOf (g .frameCount) t)) (g .output) in
-        let whole : length (m′ .output) ≡ length (rows (recordBytes (g .frameCount)) (g .output)) + length (drop (length (g .output) * trackBytes) out) =
-        ap (λ (c : Call UpdateAnswer Memory). length (c .lent .output)) leaves ∙ length-append (rows (recordBytes (g .frameCount)) (g .output)) (drop (length (g .output) * trackBytes) out) in
+        let long : length (rows (recordBytes false (g .frameCount)) (g .output)) ≡ length (g .output) * trackBytes = length-rows (recordBytes false (g .frameCount)) trackBytes (λ t. length-track (recordOf (g .frameCount) t)) (g .output) in
+        let whole : length (m′ .output) ≡ length (rows (recordBytes false (g .frameCount)) (g .output)) + length (drop (length (g .output) * trackBytes) out) =
+        ap (λ (c : Call UpdateAnswer Memory). length (c .lent .output)) leaves ∙ length-append (rows (recordBytes false (g .frameCount)) (g .output)) (drop (length (g .output) * trackBytes) out) in
         let rest = length-drop (length (g .output) * trackBytes) out in
         let lines = ltb-true (length out / trackBytes) (length text / lineBytes) room in
         let few : k * trackBytes ≤ length out = omega (arith, count, long, whole, rest, kept) in

@@ -1,6 +1,6 @@
 -- The records of an accepted frame are read back from the output as they were written: each number and each float of them fits its field. Assumes nothing.
 use mathlib.Core.Path.{_≡_, refl, ap, _∙_}
-use mathlib.Core.Bool.{Bool, true, cond}
+use mathlib.Core.Bool.{Bool, true, false, cond}
 use mathlib.Core.List.{List}
 use Prim.Native.Nat.{ℕ, zero, suc, _+_, _-_, _*_, _/_, _%_, _^_, _≤_, _<_}
 use native.Mathlib.Nat.{lt-of-not-le}
@@ -144,16 +144,16 @@ module _ (s : Settings) (state : State) (f : List Float) (c : List ℕ) (boxes :
 
   -- ---- the records
 
-  read-back : (l : List ℕ) (i : ℕ) → i < length (g .output) → readAt (laid (recordBytes (g .frameCount)) trackBytes (g .output) l) i ≡ recordOf (g .frameCount) (getD (g .output) i blank)
+  read-back : (l : List ℕ) (i : ℕ) → i < length (g .output) → readAt (laid (recordBytes false (g .frameCount)) trackBytes (g .output) l) i ≡ recordOf (g .frameCount) (getD (g .output) i blank)
   unfolding readAt
   read-back l i h =
-      ap trackOf (laid-at (recordBytes (g .frameCount)) trackBytes (λ t. length-track (recordOf (g .frameCount) t)) (g .output) l i blank h)
+      ap trackOf (laid-at (recordBytes false (g .frameCount)) trackBytes (λ t. length-track (recordOf (g .frameCount) t)) (g .output) l i blank h)
       ∙ track-decode (recordOf (g .frameCount) (getD (g .output) i blank))
       (record-fits (g .frameCount) (getD (g .output) i blank) frame-low (ltb-true (getD (g .output) i blank .id) (2 ^ 64) (every-at inField (g .output) put-out-low i blank h)))
 
-  pub lines-are : (l : List ℕ) → linesIn (laid (recordBytes (g .frameCount)) trackBytes (g .output) l) (length (g .output)) ≡ rows line (recordsOf g)
+  pub lines-are : (l : List ℕ) → linesIn (laid (recordBytes false (g .frameCount)) trackBytes (g .output) l) (length (g .output)) ≡ rows line (recordsOf g)
   unfolding linesIn
   lines-are l =
       ap (rows line)
-      (tab-ext (readAt (laid (recordBytes (g .frameCount)) trackBytes (g .output) l)) (λ (i : ℕ). recordOf (g .frameCount) (getD (g .output) i blank)) (length (g .output)) (read-back l)
+      (tab-ext (readAt (laid (recordBytes false (g .frameCount)) trackBytes (g .output) l)) (λ (i : ℕ). recordOf (g .frameCount) (getD (g .output) i blank)) (length (g .output)) (read-back l)
       ∙ tab-map (recordOf (g .frameCount)) (g .output) (length (g .output)) blank refl)

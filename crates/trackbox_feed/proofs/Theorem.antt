@@ -62,7 +62,7 @@ by-verdict : (v : Verdict) (t : Tracker) (bs : List BoxRecord) (nth : ℕ) (o : 
     → Frames t bs nth text (workBy v nth (stages t (frameFloats bs)) (lentWith (t .table .floats) (t .table .counters) o d s text))
 by-verdict Accepted t bs nth o d s text u =
     let g : Stages = stages t (frameFloats bs) in
-    let after : Answers.Memory = Answers.memoryAfter g (Answers.memoryWith (t .table .floats) (t .table .counters) o d s) in
+    let after : Answers.Memory = Answers.memoryAfter false g (Answers.memoryWith (t .table .floats) (t .table .counters) o d s) in
     goes (trackerWith (stateAfter g) (after .table)) (recordsOf g) (after .output) (after .work64) (after .work32) u refl
 by-verdict (Refused why) t bs nth o d s text u = stops (number why) (lentWith (t .table .floats) (t .table .counters) o d s (splice text 0 (refusedLine (number why) nth))) u refl refl
 

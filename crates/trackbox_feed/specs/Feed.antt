@@ -73,7 +73,7 @@ answers Accepted nth g = Done (stateAfter g) (length (says Accepted nth g))
 answers (Refused why) nth g = Stopped (length (says (Refused why) nth g))
 
 abbrev pub workBy : Verdict → ℕ → Stages → Lent → Work
-workBy v nth g l = workWith (answers v nth g) (record { memory = whereAccepted v (memoryAfter g (l .memory)) (l .memory); text = splice (l .text) 0 (says v nth g) })
+workBy v nth g l = workWith (answers v nth g) (record { memory = whereAccepted v (memoryAfter (settings .«cap_confidence») g (l .memory)) (l .memory); text = splice (l .text) 0 (says v nth g) })
 
 abbrev pub verdictOf : State → List Float → Lent → Verdict
 verdictOf state objects l = tracker.verdictOf settings state objects (l .memory)

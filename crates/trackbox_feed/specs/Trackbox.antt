@@ -40,6 +40,10 @@ constants = (refl, refl)
 abbrev pub settings : Settings
 settings = new detThresh iouThreshold 30 3
 
+-- a confidence is printed as it is, above 1 too
+pub uncapped : settings .«cap_confidence» ≡ false
+uncapped = refl
+
 -- ---- a frame
 
 -- the tracker between two frames: the lent table, and what stands beside it

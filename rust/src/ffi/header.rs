@@ -38,7 +38,7 @@ fn layouts() -> Vec<Layout> {
         layout! {
             "bedside_settings", Settings, det_thresh, iou_threshold, lambda_iou, lambda_mhd, lambda_shape,
             dlo_boost_coef, max_age, min_hits, use_dlo_boost, use_duo_boost, use_rich_similarity,
-            use_shape_similarity_correction, use_soft_boost, use_varying_threshold
+            use_shape_similarity_correction, use_soft_boost, use_varying_threshold, cap_confidence
         },
         layout! { "bedside_state", State, count, last_id, frame_count },
         layout! { "bedside_update_answer", UpdateAnswer, refusal, index, state, emitted, turns, scans },
