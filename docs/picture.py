@@ -22,7 +22,7 @@ def boxes():
     """Frame number to boxes: left, top, width, height, score."""
     data = (pathlib.Path(__file__).parent.parent / "samples/visits.boxes").read_bytes()
     frames = collections.defaultdict(list)
-    for frame, *box in struct.iter_unpack("<I5f", data):
+    for frame, *box, _ in struct.iter_unpack("<I5fB", data):
         frames[frame].append(box)
     return frames
 
@@ -85,7 +85,7 @@ def axis(y):
 def main():
     seen, out = boxes(), tracks(sys.stdin)
     top, low = 52, 52 + HIGH + 34
-    parts = [text(LEFT, 22, "In: the boxes of each frame, each with a score. Nothing says which belong together.", size=14)]
+    parts = [text(LEFT, 22, "In: the boxes of each frame, each with a score and a label. Nothing says which belong together.", size=14)]
     for k, frame in enumerate(FRAMES):
         parts.append(text(LEFT + k * (PANEL + GAP), 44, f"frame {frame}", "#777", size=12))
         parts.append(panel(k, top, [(b[:4], "#777777", f"0.{round(b[4] * 100):02d}") for b in seen[frame]]))

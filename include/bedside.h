@@ -5,7 +5,7 @@
  * the payload of a NaN are left open. CHANGELOG.md says what each version changed for callers.
  *
  * ---- What the library does not do ----
- * It allocates nothing, keeps nothing between calls and has no data of its own: 35 kB of code, no variables. Every call
+ * It allocates nothing, keeps nothing between calls and has no data of its own: 39 kB of code, no variables. Every call
  * is reentrant, from any thread, and two trackers are two tables. No call fails but by its refusal number, overflows,
  * runs forever, or touches memory that it was not lent. Of other code it calls memset alone.
  *
@@ -23,7 +23,7 @@
  * - A bool is 0 or 1.
  * - Table and state go on from frame to frame as the last call left them. A call accepts whatever is sound (11), but
  *   only then do tracks go on, and no id is given twice.
- * - Stack, below the caller's frame: 37 KiB for bedside_update, at most 17 KiB for every other call.
+ * - Stack, below the caller's frame: 38 KiB for bedside_update, at most 17 KiB for every other call.
  *
  * ---- Refusals ----
  * A call that is turned down says the number why, and 0 where it is accepted (enum bedside_refusal below). It changes
@@ -34,17 +34,19 @@
  *   a table of places     16       32        64       128         255    for p places
  *   floats             1,536    3,072     6,144    12,288      24,480    96 p
  *   counters             512    1,024     2,048     4,096       8,160    32 p
+ *   labels                16       32        64       128         255    p
  *   boxes                320      640     1,280     2,560       5,100    20 p
- *   out                  512    1,024     2,048     4,096       8,160    32 p
+ *   box_labels            16       32        64       128         255    p
+ *   out                  528    1,056     2,112     4,224       8,415    33 p
  *   work64             2,048    8,192    32,768   131,072     520,200    8 p p
  *   work32             4,096   16,384    65,536   262,144   1,040,400    16 p p
- *   together           9,024   30,336   109,824   416,256   1,606,500
+ *   together           9,072   30,432   110,016   416,640   1,607,265
  *
  * Held tracks and boxes of a frame together fit into the places, so p boxes are the most, and p is the most that the
  * work needs as its side. n people in view all the time are n held tracks and n boxes: 2 n places. The floats, the
- * counters and the state are the tracker and stay; the others are needed during a call, and may be shared by several
- * trackers that take turns. Work slices that are lent are cleared whole: a frame that is lent no more than the
- * functions bedside_.._len say for its tracks and boxes is the fastest.
+ * counters, the labels and the state are the tracker and stay; the others are needed during a call, and may be shared
+ * by several trackers that take turns. Work slices that are lent are cleared whole: a frame that is lent no more than
+ * the functions bedside_.._len say for its tracks and boxes is the fastest.
  *
  * Matrices are flat, row by row, a row for each box and a cell for each track.
  */
@@ -61,19 +63,24 @@ extern "C" {
 #endif
 
 /* ---- version ---- */
-#define BEDSIDE_VERSION_MAJOR 2
+#define BEDSIDE_VERSION_MAJOR 3
 #define BEDSIDE_VERSION_MINOR 0
 #define BEDSIDE_VERSION_PATCH 0
 #define BEDSIDE_VERSION (BEDSIDE_VERSION_MAJOR * 10000 + BEDSIDE_VERSION_MINOR * 100 + BEDSIDE_VERSION_PATCH)
-#define BEDSIDE_VERSION_STRING "2.0.0"
+#define BEDSIDE_VERSION_STRING "3.0.0"
 
 /* ---- sizes ---- */
 #define BEDSIDE_PLACE_FLOATS 24       /* a place of the table */
 #define BEDSIDE_PLACE_COUNTERS 4
 #define BEDSIDE_BOX_FLOATS 5          /* a box of a frame: left, top, width, height, score */
 #define BEDSIDE_CORNER_FLOATS 4       /* a box or a track of the pairs: x1, y1, x2, y2 */
-#define BEDSIDE_BOX_RECORD_BYTES 24   /* a record that trackbox reads */
-#define BEDSIDE_TRACK_RECORD_BYTES 32 /* a record of out */
+#define BEDSIDE_BOX_RECORD_BYTES 25   /* a record that trackbox reads: frame, a box, its label */
+#define BEDSIDE_TRACK_RECORD_BYTES 33 /* a record of out */
+
+/* ---- labels: a byte for each box, and for each place of the table ---- */
+#define BEDSIDE_SLEEPER 1
+#define BEDSIDE_PARTNER 2
+#define BEDSIDE_STAFF 3
 
 /* ---- limits ---- */
 #define BEDSIDE_MOST_PLACES 255         /* of a table; what is lent beyond them is not used */
@@ -86,6 +93,7 @@ extern "C" {
 /* Lengths for arrays of a fixed size, enough for every frame of a table of so many places. */
 #define BEDSIDE_FLOATS_LEN(places) ((places) * BEDSIDE_PLACE_FLOATS)
 #define BEDSIDE_COUNTERS_LEN(places) ((places) * BEDSIDE_PLACE_COUNTERS)
+#define BEDSIDE_LABELS_LEN(places) (places)
 #define BEDSIDE_BOXES_LEN(boxes) ((boxes) * BEDSIDE_BOX_FLOATS)
 #define BEDSIDE_OUT_LEN(places) ((places) * BEDSIDE_TRACK_RECORD_BYTES)
 #define BEDSIDE_WORK64_LEN(places) ((places) * (places))
@@ -95,6 +103,7 @@ extern "C" {
 enum bedside_refusal {
     BEDSIDE_ACCEPTED = 0,
     /* a frame; a correction by itself has 12 alone */
+    BEDSIDE_TRACK_NOT_LABELLED = 10,
     BEDSIDE_TABLE_NOT_SOUND = 11,
     BEDSIDE_TRACK_NOT_WORKABLE = 12,
     BEDSIDE_SETTING_NOT_FINITE = 13,
@@ -104,6 +113,7 @@ enum bedside_refusal {
     BEDSIDE_TOO_MANY_FRAMES = 17,
     BEDSIDE_OUTPUT_SHORT = 18,
     BEDSIDE_WORK_SHORT = 19,
+    BEDSIDE_BOX_NOT_LABELLED = 20,
     /* the assignment */
     BEDSIDE_NO_SIDE = 21,
     BEDSIDE_SIDE_ABOVE_255 = 22,
@@ -111,7 +121,8 @@ enum bedside_refusal {
     /* the pairs */
     BEDSIDE_TOO_MANY = 31,
     BEDSIDE_OTHER_SIZE = 32,
-    BEDSIDE_TOO_SHORT = 33
+    BEDSIDE_TOO_SHORT = 33,
+    BEDSIDE_NOT_LABELLED = 34
 };
 
 /* The number in words, for a log. */
@@ -119,6 +130,7 @@ static inline const char *bedside_refusal_text(uint32_t refusal)
 {
     switch (refusal) {
     case BEDSIDE_ACCEPTED: return "accepted";
+    case BEDSIDE_TRACK_NOT_LABELLED: return "a track has a label other than 1 to 3";
     case BEDSIDE_TABLE_NOT_SOUND: return "the table is not sound";
     case BEDSIDE_TRACK_NOT_WORKABLE: return "a track cannot be predicted and corrected";
     case BEDSIDE_SETTING_NOT_FINITE: return "a float setting is not finite";
@@ -128,12 +140,14 @@ static inline const char *bedside_refusal_text(uint32_t refusal)
     case BEDSIDE_TOO_MANY_FRAMES: return "the frame count has reached its limit";
     case BEDSIDE_OUTPUT_SHORT: return "out is shorter than held tracks and boxes need";
     case BEDSIDE_WORK_SHORT: return "a work slice is too short";
+    case BEDSIDE_BOX_NOT_LABELLED: return "a box has a label other than 1 to 3";
     case BEDSIDE_NO_SIDE: return "the side is 0";
     case BEDSIDE_SIDE_ABOVE_255: return "the side is above 255";
     case BEDSIDE_WRONG_SIZE: return "a slice is not as long as the side says";
     case BEDSIDE_TOO_MANY: return "more than 255 boxes or tracks";
     case BEDSIDE_OTHER_SIZE: return "an input is not as long as the sides say";
     case BEDSIDE_TOO_SHORT: return "a result or work slice is too short";
+    case BEDSIDE_NOT_LABELLED: return "a label is other than 1 to 3";
     default: return "no refusal of this library";
     }
 }
@@ -187,7 +201,7 @@ typedef struct {
 bedside_overlap_areas bedside_overlap(const float detection[4], const float track[4]);
 
 /* ---- pairs: 31 more than 255 boxes or tracks, 32 an input of another length than the sides say, 33 a
- * result or work slice too short; the lowest that applies is said ----
+ * result or work slice too short; of associate 34 a label other than 1 to 3; the lowest that applies is said ----
  * detections are the boxes' corners and corners the tracks', 4 floats each: x1, y1, x2, y2. A matrix has
  * boxes * tracks cells. Results may be longer than they have to be: what is not needed of them is left as it
  * was. Work slices have at least n * n doubles, and for associate 4 * n * n floats, n the larger side even
@@ -246,20 +260,26 @@ typedef struct {
     bool has_confidence;  /* both confidences together, in the same way */
 } bedside_associate_params;
 
+/* The labels: one for each box and one for each track, looked at also where the other side is 0. Where the labels
+ * of a box and a track differ, their IoU and their cost are taken as 0, and they are no pair at any threshold: where
+ * the assignment or the direct path proposes it, it is among the rejected pairs. */
 bedside_assignment bedside_associate(bedside_associate_params params, size_t boxes, size_t tracks,
                                      const float *detections, size_t detections_len, const float *corners,
                                      size_t corners_len, const float *mahalanobis, size_t mahalanobis_len,
                                      const float *track_confidence, size_t track_confidence_len,
                                      const float *detection_confidence, size_t detection_confidence_len,
+                                     const uint8_t *detection_labels, size_t detection_labels_len,
+                                     const uint8_t *track_labels, size_t track_labels_len,
                                      size_t *pair_boxes, size_t pair_boxes_len, size_t *pair_tracks,
                                      size_t pair_tracks_len, size_t *unmatched_detections,
                                      size_t unmatched_detections_len, size_t *unmatched_tracks,
                                      size_t unmatched_tracks_len, double *work64, size_t work64_len,
                                      float *work32, size_t work32_len);
 
-/* ---- a frame: 11 table not sound, 12 a track that cannot be corrected, 13 a float setting not finite, 14 more
- * than 255 boxes, 15 table full, 16 a bad box, 17 frame count 2147483647 or more, 18 out too short, 19 a work
- * slice too short; the lowest that applies is said ---- */
+/* ---- a frame: 11 table not sound, 10 a held track's label other than 1 to 3, 12 a track that cannot be corrected,
+ * 13 a float setting not finite, 14 more than 255 boxes, 15 table full, 16 a bad box, 20 a box's label other than
+ * 1 to 3, 17 frame count 2147483647 or more, 18 out too short, 19 a work slice too short; the first that applies, in
+ * this order, is said ---- */
 typedef struct {
     float det_thresh;
     float iou_threshold;
@@ -292,26 +312,30 @@ typedef struct {
 
 typedef struct {
     uint32_t refusal;
-    uint64_t index;      /* with 16: the lowest bad box; 0 otherwise */
+    uint64_t index;      /* with 16 and 20: the lowest box concerned; 0 otherwise */
     bedside_state state; /* the new one; where refused, the one given */
     uint64_t emitted;    /* track records written to out */
     uint64_t turns;      /* lapjv's, both 0 where it was not called */
     uint64_t scans;
 } bedside_update_answer;
 
-/* The table: 24 floats and 4 counters for each place, as many places as both slices allow, at most 255; cells
- * past them are never written. A place's floats are p, v, a, b, c, d for each of x, y, h, r in turn; its
+/* The table: 24 floats, 4 counters and a label for each place, as many places as the three slices allow, at most 255;
+ * cells past them are never written. A place's floats are p, v, a, b, c, d for each of x, y, h, r in turn; its
  * counters are id, time since update, streak, age. Places beyond count may hold anything on entry, and are 0
  * after an accepted frame. Held tracks and boxes together need as many places, and as many records of out.
+ * A track has the label of the box that started it, and keeps it: where a box's label is another, DLO similarity,
+ * IoU and cost of the two are taken as 0, and they are not paired.
  * boxes: 5 floats each, left, top, width, height, score: all finite, the first four at most 65536 in
  * magnitude, width and height above 0, score 0 to 1.
- * out: 32 bytes a record (bedside_track_at reads them); what is not needed of it is left as it was. A rest of
- * fewer than 5 floats or 32 bytes is not looked at.
+ * box_labels: a byte a box. A box without one is as one with label 0; bytes past the boxes are not looked at.
+ * out: 33 bytes a record (bedside_track_at reads them); what is not needed of it is left as it was. A rest of
+ * fewer than 5 floats or 33 bytes is not looked at.
  * Work slices have at least n * n doubles and 4 * n * n floats, n the larger of held tracks and boxes; after
  * an accepted frame every lent cell of them is 0. */
 bedside_update_answer bedside_update(bedside_settings settings, bedside_state state, float *floats,
-                                     size_t floats_len, uint64_t *counters, size_t counters_len,
-                                     const float *boxes, size_t boxes_len, uint8_t *out, size_t out_len,
+                                     size_t floats_len, uint64_t *counters, size_t counters_len, uint8_t *labels,
+                                     size_t labels_len, const float *boxes, size_t boxes_len,
+                                     const uint8_t *box_labels, size_t box_labels_len, uint8_t *out, size_t out_len,
                                      double *work64, size_t work64_len, float *work32, size_t work32_len);
 
 /* ---- lengths to lend: for a table of so many places, and for a frame of so many held tracks (state.count) and
@@ -324,6 +348,12 @@ static inline size_t bedside_floats_len(size_t places)
 static inline size_t bedside_counters_len(size_t places)
 {
     return BEDSIDE_COUNTERS_LEN(places);
+}
+
+/* of the table's labels for so many places, and of the boxes' for so many boxes */
+static inline size_t bedside_labels_len(size_t places)
+{
+    return BEDSIDE_LABELS_LEN(places);
 }
 
 static inline size_t bedside_boxes_len(size_t boxes)
@@ -346,7 +376,7 @@ static inline size_t bedside_work32_len(size_t tracks, size_t boxes)
     return 4 * bedside_work64_len(tracks, boxes);
 }
 
-/* ---- the records of out: little-endian, frame count (4 bytes), id (8), then five floats ---- */
+/* ---- the records of out: little-endian, frame count (4 bytes), id (8), five floats, label (1) ---- */
 typedef struct {
     uint32_t frame;
     uint64_t id;
@@ -355,6 +385,7 @@ typedef struct {
     float width;
     float height;
     float confidence; /* no NaN; from age 7 on 0.9 to the power -1, which is above 1, or with cap_confidence 1 */
+    uint8_t label;
 } bedside_track;
 
 static inline uint32_t bedside_u32_at(const uint8_t *bytes)
@@ -391,6 +422,7 @@ static inline bedside_track bedside_track_at(const uint8_t *out, size_t k)
     track.width = bedside_f32_at(record + 20);
     track.height = bedside_f32_at(record + 24);
     track.confidence = bedside_f32_at(record + 28);
+    track.label = record[32];
     return track;
 }
 

@@ -10,6 +10,7 @@ import pathlib
 import struct
 
 PIXEL = 64
+SLEEPER, PARTNER, STAFF = 1, 2, 3
 
 
 class Random:
@@ -39,10 +40,11 @@ def towards(place, goal, most):
 
 
 class Body:
-    """Someone in the picture: left, top, width and height, and where they are going."""
+    """Someone in the picture: who they are, left, top, width and height, and where they are going."""
 
-    def __init__(self, random, at, speed, missed, scores):
+    def __init__(self, random, label, at, speed, missed, scores):
         self.random = random
+        self.label = label
         self.at = [PIXEL * k for k in at]
         self.goal = list(self.at)
         self.speed = speed * PIXEL
@@ -67,24 +69,24 @@ class Body:
         low, high = self.scores
         score = low + self.random.below(high - low + 1)
         seen = [self.random.about(k, PIXEL) for k in self.at]
-        return [seen + [score // 2 if hidden else score]]
+        return [seen + [score // 2 if hidden else score, self.label]]
 
 
-def sleeper(random, at):
-    return Body(random, at, 4, 12, (560, 990))
+def sleeper(random, at, label=SLEEPER):
+    return Body(random, label, at, 4, 12, (560, 990))
 
 
-def walker(random, at, missed):
-    return Body(random, at, 14, missed, (480, 980))
+def walker(random, at, missed, label=STAFF):
+    return Body(random, label, at, 14, missed, (480, 980))
 
 
 def night(frames, boxes):
     """The records of frames 1 to `frames`; `boxes` gives those of one."""
-    record = struct.Struct("<I5f")
+    record = struct.Struct("<I5fB")
     made = bytearray()
     for frame in range(1, frames + 1):
-        for left, top, width, height, score in boxes(frame):
-            made += record.pack(frame, left / PIXEL, top / PIXEL, width / PIXEL, height / PIXEL, score / 1024)
+        for left, top, width, height, score, label in boxes(frame):
+            made += record.pack(frame, left / PIXEL, top / PIXEL, width / PIXEL, height / PIXEL, score / 1024, label)
     return bytes(made)
 
 
@@ -104,7 +106,7 @@ def quiet(random):
 
 def visits(random):
     """A sleeper, a partner for most of the night, and staff, who come to the bed and go."""
-    bed = [sleeper(random, [220, 180, 100, 220]), sleeper(random, [302, 190, 95, 210])]
+    bed = [sleeper(random, [220, 180, 100, 220]), sleeper(random, [302, 190, 95, 210], PARTNER)]
     staff = walker(random, [-90, 120, 80, 260], 10)
 
     def staff_goes(frame):
@@ -128,14 +130,17 @@ def visits(random):
 
 
 def crowded(random):
-    """A ward of eight beds, up to nine people who walk between them, and boxes where nobody is."""
+    """A ward of eight beds, up to nine people who walk between them, every third of them no staff, and boxes where nobody
+    is, with any label."""
     beds = [sleeper(random, [20 + 160 * (k % 4), 20 + 260 * (k // 4), 100, 200]) for k in range(8)]
-    people = [walker(random, [random.below(560), random.below(340), 60, 160], 7) for _ in range(9)]
+    labels = [STAFF, STAFF, PARTNER] * 3
+    people = [walker(random, [random.below(560), random.below(340), 60, 160], 7, label) for label in labels]
 
     def ghost():
         place = [random.below(560 * PIXEL), random.below(340 * PIXEL)]
         size = [random.about(40 * PIXEL, 20 * PIXEL), random.about(80 * PIXEL, 40 * PIXEL)]
-        return [place + size + [100 + random.below(350)]]
+        score = 100 + random.below(350)
+        return [place + size + [score, 1 + score % 3]]
 
     def boxes(frame):
         here = people[: min(9, frame // 40)]
@@ -154,7 +159,7 @@ def main():
     for number, make in enumerate([quiet, visits, crowded]):
         made = make(Random(88172645463325252 + number))
         (folder / f"{make.__name__}.boxes").write_bytes(made)
-        print(f"{make.__name__}.boxes: {len(made) // 24} boxes, {len(made)} bytes")
+        print(f"{make.__name__}.boxes: {len(made) // 25} boxes, {len(made)} bytes")
 
 
 if __name__ == "__main__":

@@ -19,7 +19,7 @@ enum { PLACES = BEDSIDE_MOST_PLACES, CELLS = PLACES * PLACES, STACK = 1 << 20, P
 
 static float floats[BEDSIDE_FLOATS_LEN(PLACES)], boxes[BEDSIDE_BOXES_LEN(PLACES)];
 static uint64_t counters[BEDSIDE_COUNTERS_LEN(PLACES)];
-static uint8_t out[BEDSIDE_OUT_LEN(PLACES)];
+static uint8_t labels[BEDSIDE_LABELS_LEN(PLACES)], box_labels[BEDSIDE_LABELS_LEN(PLACES)], out[BEDSIDE_OUT_LEN(PLACES)];
 static double work64[BEDSIDE_WORK64_LEN(PLACES)], costs[CELLS];
 static float work32[BEDSIDE_WORK32_LEN(PLACES)];
 static float detections[4 * PLACES], corners[4 * PLACES], confidences[PLACES], cells[CELLS], result[CELLS];
@@ -50,8 +50,9 @@ static void nothing(void) {}
 static void update(void)
 {
     bedside_update_answer a = bedside_update(settings, state, floats, BEDSIDE_FLOATS_LEN(PLACES), counters,
-                                             BEDSIDE_COUNTERS_LEN(PLACES), boxes, bedside_boxes_len(frame_boxes), out,
-                                             sizeof out, work64, CELLS, work32, 4 * CELLS);
+                                             BEDSIDE_COUNTERS_LEN(PLACES), labels, sizeof labels, boxes,
+                                             bedside_boxes_len(frame_boxes), box_labels, frame_boxes, out, sizeof out,
+                                             work64, CELLS, work32, 4 * CELLS);
     state = a.state;
     refusal = a.refusal;
 }
@@ -107,8 +108,9 @@ static void associate(void)
 {
     const bedside_associate_params params = {0.3f, 0.5f, 0.25f, 0.25f, true, true, true};
     refusal = bedside_associate(params, PLACES, PLACES, detections, 4 * PLACES, corners, 4 * PLACES, cells, CELLS,
-                                confidences, PLACES, confidences, PLACES, list[0], PLACES, list[1], PLACES, list[2],
-                                PLACES, list[3], PLACES, work64, CELLS, work32, 4 * CELLS).refusal;
+                                confidences, PLACES, confidences, PLACES, box_labels, PLACES, box_labels, PLACES, list[0],
+                                PLACES, list[1], PLACES, list[2], PLACES, list[3], PLACES, work64, CELLS, work32,
+                                4 * CELLS).refusal;
 }
 
 static void small_calls(void)
@@ -184,6 +186,7 @@ static void make_boxes(size_t n)
         box[1] *= 300.0f;
         box[2] = 20.0f + 50.0f * box[2];
         box[3] = 20.0f + 50.0f * box[3];
+        box_labels[k] = 1 + (uint8_t)(3.0f * chance());
     }
 }
 
@@ -206,6 +209,7 @@ static void one_box(float width)
 {
     const float box[BEDSIDE_BOX_FLOATS] = {10.3f, 20.7f, width, 64.9f, 0.75f};
     memcpy(boxes, box, sizeof box);
+    box_labels[0] = BEDSIDE_SLEEPER;
     memset(&state, 0, sizeof state);
     frame_boxes = 1;
     update();
@@ -238,6 +242,7 @@ int main(int count, char **words)
     fill(corners, 4 * PLACES);
     fill(confidences, PLACES);
     fill(cells, CELLS);
+    memset(box_labels, BEDSIDE_SLEEPER, sizeof box_labels);
     for (size_t k = 0; k < CELLS; k++)
         costs[k] = cells[k];
     if (strcmp(what, "update") == 0)

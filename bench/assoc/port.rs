@@ -72,15 +72,17 @@ extern "C" {
         params: AssociateParams, boxes: usize, tracks: usize, detections: *const f32, detections_len: usize,
         corners: *const f32, corners_len: usize, mahalanobis: *const f32, mahalanobis_len: usize,
         track_confidence: *const f32, track_confidence_len: usize, detection_confidence: *const f32,
-        detection_confidence_len: usize, pair_boxes: *mut usize, pair_boxes_len: usize, pair_tracks: *mut usize,
-        pair_tracks_len: usize, unmatched_detections: *mut usize, unmatched_detections_len: usize,
-        unmatched_tracks: *mut usize, unmatched_tracks_len: usize, work64: *mut f64, work64_len: usize,
-        work32: *mut f32, work32_len: usize,
+        detection_confidence_len: usize, detection_labels: *const u8, detection_labels_len: usize,
+        track_labels: *const u8, track_labels_len: usize, pair_boxes: *mut usize, pair_boxes_len: usize,
+        pair_tracks: *mut usize, pair_tracks_len: usize, unmatched_detections: *mut usize,
+        unmatched_detections_len: usize, unmatched_tracks: *mut usize, unmatched_tracks_len: usize, work64: *mut f64,
+        work64_len: usize, work32: *mut f32, work32_len: usize,
     ) -> Assignment;
 }
 
-/// Room for results and work, lent to each call.
+/// Room for results and work, lent to each call, and one label for all: the published file knows none.
 pub struct Room {
+    labels: [Vec<u8>; 2],
     pub out: Vec<f32>,
     pub pairs: [Vec<usize>; 2],
     pub unmatched: [Vec<usize>; 2],
@@ -93,6 +95,7 @@ impl Room {
     pub fn new(boxes: usize, tracks: usize) -> Room {
         let (few, n) = (boxes.min(tracks), boxes.max(tracks));
         Room {
+            labels: [vec![1; boxes], vec![1; tracks]],
             out: vec![0.0; boxes * tracks],
             pairs: [vec![0; few], vec![0; few]],
             unmatched: [vec![0; boxes], vec![0; tracks]],
@@ -188,7 +191,7 @@ pub fn linear_assignment(case: &Case, room: &mut Room) {
 pub fn associate(case: &Case, room: &mut Room) {
     let (d, t, m) = (&case.flat_detections, &case.flat_tracks, &case.flat_distance);
     let (track, detection) = (&case.track_confidence, &case.detection_confidence);
-    let Room { pairs: [first, second], unmatched: [left, right], work64, work32, .. } = room;
+    let Room { labels: [of_boxes, of_tracks], pairs: [first, second], unmatched: [left, right], work64, work32, .. } = room;
     let params = AssociateParams {
         iou_threshold: 0.3,
         lambda_iou: 0.5,
@@ -201,9 +204,10 @@ pub fn associate(case: &Case, room: &mut Room) {
     let answer = unsafe {
         bedside_associate(
             params, case.boxes, case.tracks, d.as_ptr(), d.len(), t.as_ptr(), t.len(), m.as_ptr(), m.len(),
-            track.as_ptr(), track.len(), detection.as_ptr(), detection.len(), first.as_mut_ptr(), first.len(),
-            second.as_mut_ptr(), second.len(), left.as_mut_ptr(), left.len(), right.as_mut_ptr(), right.len(),
-            work64.as_mut_ptr(), work64.len(), work32.as_mut_ptr(), work32.len(),
+            track.as_ptr(), track.len(), detection.as_ptr(), detection.len(), of_boxes.as_ptr(), of_boxes.len(),
+            of_tracks.as_ptr(), of_tracks.len(), first.as_mut_ptr(), first.len(), second.as_mut_ptr(), second.len(),
+            left.as_mut_ptr(), left.len(), right.as_mut_ptr(), right.len(), work64.as_mut_ptr(), work64.len(),
+            work32.as_mut_ptr(), work32.len(),
         )
     };
     said(answer, room);

@@ -7,11 +7,11 @@ pub struct Night {
     pub places: usize,
 }
 
-/// A night of samples/, with places as trackbox lends them.
+/// A night of samples/, with places as trackbox lends them. Labels are left out, as the published tracker knows none.
 fn sample(name: &str) -> Night {
     let bytes = std::fs::read(format!("{}/{name}.boxes", env!("SAMPLES"))).expect("a sample night");
     let mut frames: Vec<Vec<f32>> = Vec::new();
-    for record in bytes.chunks_exact(24) {
+    for record in bytes.chunks_exact(25) {
         let word = |k: usize| u32::from_le_bytes(record[4 * k..4 * k + 4].try_into().unwrap());
         frames.resize(frames.len().max(word(0) as usize), Vec::new());
         frames[word(0) as usize - 1].extend((1..6).map(|k| f32::from_bits(word(k))));

@@ -35,8 +35,9 @@ unsafe extern "C" {
     fn bedside_settings_new(det_thresh: f32, iou_threshold: f32, max_age: u64, min_hits: u64) -> Settings;
     fn bedside_update(
         settings: Settings, state: State, floats: *mut f32, floats_len: usize, counters: *mut u64, counters_len: usize,
-        boxes: *const f32, boxes_len: usize, out: *mut u8, out_len: usize, work64: *mut f64, work64_len: usize,
-        work32: *mut f32, work32_len: usize,
+        labels: *mut u8, labels_len: usize, boxes: *const f32, boxes_len: usize, box_labels: *const u8,
+        box_labels_len: usize, out: *mut u8, out_len: usize, work64: *mut f64, work64_len: usize, work32: *mut f32,
+        work32_len: usize,
     ) -> Answer;
 }
 
@@ -54,6 +55,9 @@ pub struct Tracker {
     pub state: State,
     floats: Vec<f32>,
     counters: Vec<u64>,
+    labels: Vec<u8>,
+    /// 1 for every box.
+    box_labels: [u8; 255],
     out: Vec<u8>,
     work64: Vec<f64>,
     work32: Vec<f32>,
@@ -74,7 +78,9 @@ impl Tracker {
             state: State::default(),
             floats: vec![0.0; 24 * places],
             counters: vec![0; 4 * places],
-            out: vec![0; 32 * places],
+            labels: vec![0; places],
+            box_labels: [1; 255],
+            out: vec![0; 33 * places],
             work64: vec![0.0; side * side],
             work32: vec![0.0; 4 * side * side],
             emitted: 0,
@@ -89,14 +95,15 @@ impl Tracker {
 
     pub fn update(&mut self, boxes: &[f32]) {
         let work = self.work(boxes.len() / 5);
-        let Tracker { floats, counters, out, work64, work32, .. } = self;
+        let Tracker { floats, counters, labels, out, work64, work32, .. } = self;
+        let box_labels = &self.box_labels[..boxes.len() / 5];
         let (work64, work32) = (&mut work64[..work], &mut work32[..4 * work]);
         // SAFETY: each pointer comes with its slice's length, and no two of the slices overlap.
         let answer = unsafe {
             bedside_update(
                 self.settings, self.state, floats.as_mut_ptr(), floats.len(), counters.as_mut_ptr(), counters.len(),
-                boxes.as_ptr(), boxes.len(), out.as_mut_ptr(), out.len(), work64.as_mut_ptr(), work64.len(),
-                work32.as_mut_ptr(), work32.len(),
+                labels.as_mut_ptr(), labels.len(), boxes.as_ptr(), boxes.len(), box_labels.as_ptr(), box_labels.len(),
+                out.as_mut_ptr(), out.len(), work64.as_mut_ptr(), work64.len(), work32.as_mut_ptr(), work32.len(),
             )
         };
         assert_eq!(
@@ -114,6 +121,6 @@ impl Tracker {
             let id = u64::from_le_bytes(bytes[4..12].try_into().unwrap());
             [id, word(12), word(16), word(20), word(24), word(28)]
         };
-        self.out[..32 * self.emitted].chunks_exact(32).map(record).collect()
+        self.out[..33 * self.emitted].chunks_exact(33).map(record).collect()
     }
 }

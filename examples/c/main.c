@@ -70,7 +70,8 @@ static void assignment(void)
            (unsigned)answer.scans);
 }
 
-/* Two boxes and two tracks in each other's order, one pair after the other; then a list that is too short. */
+/* Two boxes and two tracks in each other's order, one pair after the other; the same with labels that keep one of them
+ * apart; then a list that is too short. */
 static void pairs(void)
 {
     const float detections[8] = {0, 0, 10, 10, 20, 0, 30, 10};
@@ -84,15 +85,23 @@ static void pairs(void)
     show("of the union", areas.union_area);
 
     const bedside_associate_params params = {0.3f, 0.5f, 0.25f, 0.25f, true, false, false};
+    const uint8_t sleepers[2] = {BEDSIDE_SLEEPER, BEDSIDE_SLEEPER};
+    const uint8_t with_staff[2] = {BEDSIDE_STAFF, BEDSIDE_SLEEPER};
     size_t pair_boxes[2], pair_tracks[2], left_boxes[2], left_tracks[2];
     double work64[4];
     float work32[16];
     bedside_assignment answer =
-        bedside_associate(params, 2, 2, detections, 8, corners, 8, NULL, 0, NULL, 0, NULL, 0, pair_boxes, 2, pair_tracks, 2,
-                          left_boxes, 2, left_tracks, 2, work64, 4, work32, 16);
+        bedside_associate(params, 2, 2, detections, 8, corners, 8, NULL, 0, NULL, 0, NULL, 0, sleepers, 2, sleepers, 2,
+                          pair_boxes, 2, pair_tracks, 2, left_boxes, 2, left_tracks, 2, work64, 4, work32, 16);
     printf("%-15s refusal %u pairs %u: %u %u, %u %u\n", "associate", (unsigned)answer.refusal,
            (unsigned)answer.pairs, (unsigned)pair_boxes[0], (unsigned)pair_tracks[0], (unsigned)pair_boxes[1],
            (unsigned)pair_tracks[1]);
+    answer = bedside_associate(params, 2, 2, detections, 8, corners, 8, NULL, 0, NULL, 0, NULL, 0, with_staff, 2,
+                               sleepers, 2, pair_boxes, 2, pair_tracks, 2, left_boxes, 2, left_tracks, 2, work64, 4,
+                               work32, 16);
+    printf("%-15s refusal %u pairs %u: %u %u left %u %u\n", "with labels", (unsigned)answer.refusal,
+           (unsigned)answer.pairs, (unsigned)pair_boxes[0], (unsigned)pair_tracks[0], (unsigned)left_boxes[0],
+           (unsigned)left_tracks[0]);
 
     const float equal[4] = {0.5f, 0.5f, 0.5f, 0.5f};
     bedside_matched matched =
@@ -109,13 +118,14 @@ static void pairs(void)
     printf("%-15s refusal %u pairs %u\n", "match, short", (unsigned)matched.refusal, (unsigned)matched.pairs);
 }
 
-enum { PLACES = 4 };
+enum { PLACES = 6 };
 
 /* A tracker, and what a frame needs. */
 typedef struct {
     bedside_state state;
     float floats[BEDSIDE_FLOATS_LEN(PLACES)];
     uint64_t counters[BEDSIDE_COUNTERS_LEN(PLACES)];
+    uint8_t labels[BEDSIDE_LABELS_LEN(PLACES)];
     uint8_t out[BEDSIDE_OUT_LEN(PLACES)];
     double work64[BEDSIDE_WORK64_LEN(PLACES)];
     float work32[BEDSIDE_WORK32_LEN(PLACES)];
@@ -123,18 +133,19 @@ typedef struct {
 
 static void show_track(bedside_track track)
 {
-    printf("%-15s %u at %.6f %.6f size %.6f %.6f confidence %.6f\n", "track", (unsigned)track.id, track.left,
-           track.top, track.width, track.height, track.confidence);
+    printf("%-15s %u label %u at %.6f %.6f size %.6f %.6f confidence %.6f\n", "track", (unsigned)track.id,
+           (unsigned)track.label, track.left, track.top, track.width, track.height, track.confidence);
 }
 
-/* One frame; a box is five floats. */
-static void frame(tracker *t, const float *boxes, size_t boxes_len)
+/* One frame; a box is five floats and a label. */
+static void frame(tracker *t, const float *boxes, size_t boxes_len, const uint8_t *box_labels)
 {
     const bedside_settings settings = bedside_settings_new(0.6f, 0.3f, 30, 3);
     bedside_update_answer answer =
         bedside_update(settings, t->state, t->floats, BEDSIDE_FLOATS_LEN(PLACES), t->counters,
-                       BEDSIDE_COUNTERS_LEN(PLACES), boxes, boxes_len, t->out, BEDSIDE_OUT_LEN(PLACES),
-                       t->work64, BEDSIDE_WORK64_LEN(PLACES), t->work32, BEDSIDE_WORK32_LEN(PLACES));
+                       BEDSIDE_COUNTERS_LEN(PLACES), t->labels, BEDSIDE_LABELS_LEN(PLACES), boxes, boxes_len,
+                       box_labels, boxes_len / BEDSIDE_BOX_FLOATS, t->out, BEDSIDE_OUT_LEN(PLACES), t->work64,
+                       BEDSIDE_WORK64_LEN(PLACES), t->work32, BEDSIDE_WORK32_LEN(PLACES));
     t->state = answer.state; /* the one given, where the frame is refused */
     printf("%-15s refusal %u index %u frames %u held %u\n", "update", (unsigned)answer.refusal,
            (unsigned)answer.index, (unsigned)answer.state.frame_count, (unsigned)answer.state.count);
@@ -142,7 +153,9 @@ static void frame(tracker *t, const float *boxes, size_t boxes_len)
         show_track(bedside_track_at(t->out, k));
 }
 
-/* Two sleepers, of whom the second is missed once; then a box without width, and more boxes than places are left. */
+/* A sleeper and a partner, who is missed once. A nurse stands before the sleeper, and starts a track of their own; the
+ * sleeper is seen again and goes on with the old id. Then a box without width, a label that is none, and more boxes than
+ * places are left. */
 static void frames(void)
 {
     static tracker t;
@@ -150,14 +163,26 @@ static void frames(void)
     static const float second[] = {60.5f, 20.25f, 30, 60, 0.875f, 10.5f, 20, 32, 64, 0.75f};
     static const float missed[] = {11, 20.5f, 32, 64, 0.75f};
     static const float fourth[] = {11, 20.5f, 32, 64, 0.75f, 61, 20, 30, 60, 0.875f};
+    static const float nurse[] = {12, 20, 32, 64, 0.875f, 61, 20, 30, 60, 0.875f};
+    static const float all[] = {11, 20.5f, 32, 64, 0.75f, 61, 20, 30, 60, 0.875f, 18, 20, 32, 64, 0.875f};
     static const float no_width[] = {11, 20, 32, 64, 0.75f, 61, 20, 0, 60, 0.875f};
-    static const float three[] = {11, 20, 32, 64, 0.75f, 61, 20, 30, 60, 0.875f, 90, 20, 30, 60, 0.75f};
-    frame(&t, first, LENGTH(first));
-    frame(&t, second, LENGTH(second));
-    frame(&t, missed, LENGTH(missed));
-    frame(&t, fourth, LENGTH(fourth));
-    frame(&t, no_width, LENGTH(no_width));
-    frame(&t, three, LENGTH(three));
+    static const float four[] = {11, 20, 32, 64, 0.75f, 61, 20, 30, 60, 0.875f,
+                                 90, 20, 30, 60, 0.75f, 99, 20, 30, 60, 0.75f};
+    static const uint8_t two[] = {BEDSIDE_SLEEPER, BEDSIDE_PARTNER};
+    static const uint8_t back[] = {BEDSIDE_PARTNER, BEDSIDE_SLEEPER};
+    static const uint8_t with_nurse[] = {BEDSIDE_STAFF, BEDSIDE_PARTNER};
+    static const uint8_t three[] = {BEDSIDE_SLEEPER, BEDSIDE_PARTNER, BEDSIDE_STAFF, BEDSIDE_STAFF};
+    static const uint8_t none[] = {BEDSIDE_SLEEPER, 0};
+    frame(&t, first, LENGTH(first), two);
+    frame(&t, second, LENGTH(second), back);
+    frame(&t, missed, LENGTH(missed), two);
+    frame(&t, fourth, LENGTH(fourth), two);
+    frame(&t, nurse, LENGTH(nurse), with_nurse);
+    for (int k = 0; k < 3; k++)
+        frame(&t, all, LENGTH(all), three);
+    frame(&t, no_width, LENGTH(no_width), two);
+    frame(&t, fourth, LENGTH(fourth), none);
+    frame(&t, four, LENGTH(four), three);
 }
 
 int main(void)

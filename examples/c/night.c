@@ -22,9 +22,11 @@ static bedside_settings settings;
 static bedside_state state;
 static float floats[BEDSIDE_FLOATS_LEN(PLACES)];
 static uint64_t counters[BEDSIDE_COUNTERS_LEN(PLACES)];
+static uint8_t labels[BEDSIDE_LABELS_LEN(PLACES)];
 
 /* And what a frame needs. */
 static float boxes[BEDSIDE_BOXES_LEN(BOXES)];
+static uint8_t box_labels[BEDSIDE_LABELS_LEN(BOXES)];
 static uint8_t out[BEDSIDE_OUT_LEN(PLACES)];
 static double work64[BEDSIDE_WORK64_LEN(PLACES)];
 static float work32[BEDSIDE_WORK32_LEN(PLACES)];
@@ -40,8 +42,8 @@ static bool print_track(const uint8_t *record)
 {
     if (printf("%" PRIu32 " %" PRIu64, bedside_u32_at(record), bedside_u64_at(record + 4)) < 0)
         return false;
-    /* left, top, width, height, confidence */
-    for (size_t at = 12; at < BEDSIDE_TRACK_RECORD_BYTES; at += 4)
+    /* left, top, width, height, confidence; the label is not printed */
+    for (size_t at = 12; at < 32; at += 4)
         if (printf(" %08" PRIx32, bedside_u32_at(record + at)) < 0)
             return false;
     return putchar('\n') != EOF;
@@ -65,9 +67,9 @@ static int refuse(uint32_t number, uint64_t record)
 static int work_frame(size_t n, uint64_t record)
 {
     bedside_update_answer answer =
-        bedside_update(settings, state, floats, LENGTH(floats), counters, LENGTH(counters), boxes,
-                       bedside_boxes_len(n), out, LENGTH(out), work64, bedside_work64_len(state.count, n), work32,
-                       bedside_work32_len(state.count, n));
+        bedside_update(settings, state, floats, LENGTH(floats), counters, LENGTH(counters), labels, LENGTH(labels),
+                       boxes, bedside_boxes_len(n), box_labels, n, out, LENGTH(out), work64,
+                       bedside_work64_len(state.count, n), work32, bedside_work32_len(state.count, n));
     if (answer.refusal != BEDSIDE_ACCEPTED)
         return refuse(answer.refusal, record);
     state = answer.state;
@@ -109,6 +111,7 @@ static void hold_box(const uint8_t *record)
     float *box = boxes + BEDSIDE_BOX_FLOATS * open_boxes;
     for (size_t k = 0; k < BEDSIDE_BOX_FLOATS; k++)
         box[k] = bedside_f32_at(record + 4 + 4 * k);
+    box_labels[open_boxes] = record[24];
     open_boxes++;
 }
 

@@ -1,9 +1,9 @@
 //! Calls functions of each part of the crate bedside and prints what came back: the call, the bits, the value.
 
-use bedside::assoc::{self, AssociateParams, Room};
+use bedside::assoc::{self, AssociateParams, Labels, Room};
 use bedside::filter::{self, Pair, NOISE};
 use bedside::lapjv::lapjv;
-use bedside::{float, Detection, Settings, Tracker};
+use bedside::{float, Detection, Label, Settings, Tracker};
 
 type Answer = Result<(), Box<dyn std::error::Error>>;
 
@@ -63,7 +63,8 @@ fn assignment() -> Answer {
     Ok(())
 }
 
-/// Two boxes and two tracks in each other's order, one pair after the other; then a room that is too small.
+/// Two boxes and two tracks in each other's order, one pair after the other; the same with labels that keep one of
+/// them apart; then a room that is too small.
 fn pairs() -> Answer {
     let boxes = [[0.0, 0.0, 10.0, 10.0], [20.0, 0.0, 30.0, 10.0]];
     let tracks = [[21.0, 0.0, 31.0, 10.0], [5.0, 0.0, 15.0, 10.0]];
@@ -75,8 +76,13 @@ fn pairs() -> Answer {
     show("of the union", areas.union_area);
 
     let mut room = Room::new(2, 2);
-    let found = assoc::associate(&boxes, &tracks, &AssociateParams::default(), None, None, &mut room)?;
+    let params = AssociateParams::default();
+    let found = assoc::associate(&boxes, &tracks, &params, None, None, None, &mut room)?;
     println!("{:15} pairs {:?}", "associate", found.pairs().collect::<Vec<_>>());
+    let labels = Labels { detections: &[3, 1], tracks: &[1, 1] };
+    let found = assoc::associate(&boxes, &tracks, &params, None, None, Some(labels), &mut room)?;
+    let (listed, left) = (found.pairs().collect::<Vec<_>>(), found.unmatched_detections);
+    println!("{:15} pairs {listed:?} left {left:?} {:?}", "with labels", found.unmatched_tracks);
     let matched = assoc::match_detections(2, 2, &[0.5; 4], 0.3, &mut room)?;
     let counts = matched.counts;
     let listed: Vec<_> = matched.pairs().collect();
@@ -94,22 +100,28 @@ fn show_frame(tracker: &mut Tracker, boxes: &[Detection]) {
     match tracker.update(boxes) {
         Ok(tracks) => {
             println!("{:15} {} tracks of {} boxes", "update", tracks.len(), boxes.len());
-            tracks.for_each(|track| println!("{:15} {track}", "track"));
+            tracks.for_each(|track| println!("{:15} {track} {:?}", "track", track.label));
         }
         Err(refusal) => println!("{:15} {refusal}", "update"),
     }
 }
 
-/// A sleeper and a partner, who is missed once; then a frame that is refused, which changes nothing.
+/// A sleeper and a partner, who is missed once; frames that are refused, which change nothing; and a nurse who stands
+/// before the sleeper and has a track of their own.
 fn frames() {
-    let mut tracker = Tracker::with_capacity(Settings::new(0.6, 0.3, 30, 3), 4);
+    let mut tracker = Tracker::with_capacity(Settings::new(0.6, 0.3, 30, 3), 5);
     let sleeper = |left| Detection::new(left, 20.0, 32.0, 64.0, 0.75);
-    let partner = Detection::new(80.0, 24.0, 30.0, 60.0, 0.875);
+    let partner = Detection::new(80.0, 24.0, 30.0, 60.0, 0.875).labelled(Label::Partner);
+    let nurse = sleeper(14.0).labelled(Label::Staff);
+    let mut nobody = partner;
+    nobody.label = 0;
     show_frame(&mut tracker, &[sleeper(10.0), partner]);
     show_frame(&mut tracker, &[sleeper(11.0)]);
     show_frame(&mut tracker, &[sleeper(f32::NAN), partner]);
-    show_frame(&mut tracker, &[sleeper(12.0), partner, partner]);
-    show_frame(&mut tracker, &[partner, sleeper(12.0)]);
+    show_frame(&mut tracker, &[sleeper(12.0), nobody]);
+    show_frame(&mut tracker, &[sleeper(12.0), partner, partner, partner]);
+    show_frame(&mut tracker, &[partner, nurse]);
+    show_frame(&mut tracker, &[nurse, sleeper(12.0)]);
     let (frames, held, last) = (tracker.frame_count(), tracker.held_tracks(), tracker.last_id());
     println!("{:15} frames {frames} held {held} last id {last}", "tracker");
 }

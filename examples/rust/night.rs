@@ -6,8 +6,8 @@ use bedside::{Detection, Settings, Tracker};
 use std::io::{self, BufRead, BufWriter, StdoutLock, Write};
 use std::process::ExitCode;
 
-/// The bytes of a box record: the frame's number, then left, top, width, height and score.
-const RECORD: usize = 24;
+/// The bytes of a box record: the frame's number, then left, top, width, height and score, and the label.
+const RECORD: usize = 25;
 /// The most boxes of a frame.
 const BOXES: usize = 64;
 /// How far a frame number may be above the last one.
@@ -137,7 +137,9 @@ fn read_record(input: &mut impl BufRead, number: u64) -> Result<Option<[u8; RECO
 fn parse(record: &[u8; RECORD]) -> (u32, Detection) {
     let word = |k: usize| u32::from_le_bytes(std::array::from_fn(|i| record[4 * k + i]));
     let [left, top, width, height, score] = [1, 2, 3, 4, 5].map(|k| f32::from_bits(word(k)));
-    (word(0), Detection::new(left, top, width, height, score))
+    let mut detection = Detection::new(left, top, width, height, score);
+    detection.label = record[24];
+    (word(0), detection)
 }
 
 fn failed(stream: &str, why: &io::Error) -> ExitCode {

@@ -1,10 +1,12 @@
 //! The calls of crates/assoc_vectors:
 //!
 //!     stdin      the records that it reads
-//!     vectors    what it has to print, by the published assoc.rs, with lapjv.rs and its two counts; and for the calls
-//!                that the port turns down, by the numbers of the scope document
+//!     vectors    what it has to print, by the published assoc.rs, with lapjv.rs and its two counts, of labels by the rule
+//!                that is put into it; and for the calls that the port turns down, by the numbers of the scope document
+//!                and of document 02
 
 mod held;
+mod labelled;
 mod refused;
 
 use held::Place;
@@ -60,6 +62,10 @@ impl Lists {
         records.numbers(&[call.out]);
         (0..4).for_each(|k| records.numbers(&[call.lists.get(k).copied().unwrap_or(0)]));
         records.numbers(&call.work);
+        if call.routine == call::ASSOCIATE {
+            call.labels.iter().for_each(|labels| records.numbers(&[labels.len()]));
+            call.labels.iter().for_each(|labels| records.bytes(labels));
+        }
         records.title(name);
     }
 
@@ -69,6 +75,7 @@ impl Lists {
         let said = if answer.words[0] == 0 { &answer.words[..] } else { &answer.words[..1] };
         let said: String = said.iter().map(|k| format!(" {k}")).collect();
         let given = call.inputs.iter().fold(Digest::new(), |sum, input| sum.floats(input));
+        let given = call.labels.iter().fold(given, |sum, labels| sum.bytes(labels));
         let lists = answer.lists.iter().fold(Digest::new().floats(&answer.out), |sum, lent| sum.numbers(lent));
         let lent = lists.doubles(&answer.work64).floats(&answer.work32);
         self.text += &format!("{} |{said} | {:016x} {:016x}\n", title(name), given.0, lent.0);
@@ -85,6 +92,14 @@ pub struct Group {
     pub tracks: usize,
 }
 
+/// A call of `associate`: lengths of detections, corners, distances, the confidences of tracks and of boxes, the four lists
+/// and both work slices; and the labels of boxes and of tracks.
+pub struct Association {
+    pub flags: usize,
+    pub lengths: [usize; 11],
+    pub labels: [Vec<u8>; 2],
+}
+
 fn floats(slice: &Slice, length: usize) -> Vec<f32> {
     slice.floats[..length].to_vec()
 }
@@ -93,7 +108,8 @@ impl Group {
     /// A call of a routine, without floats, lists and work slices.
     fn call(&self, routine: usize, inputs: Vec<Vec<f32>>) -> Call {
         let Group { boxes, tracks, .. } = *self;
-        Call { routine, boxes, tracks, flags: 0, floats: [0.0; 4], inputs, out: 0, lists: vec![], work: [0, 0] }
+        let labels = [vec![], vec![]];
+        Call { routine, boxes, tracks, flags: 0, floats: [0.0; 4], inputs, labels, out: 0, lists: vec![], work: [0, 0] }
     }
 
     /// Detections and corners, and the confidences of tracks and of boxes, of these lengths.
@@ -157,10 +173,8 @@ impl Group {
         lists.call(name, &Call { floats: self.threshold(), lists: of_lists, work, ..call }, &[held::IOU, held::COST]);
     }
 
-    /// For each of the flags, lengths of detections, corners, distances, the confidences of tracks and of boxes, the
-    /// four lists and both work slices.
-    pub fn associated(&self, lists: &mut Lists, name: &str, calls: &[(usize, [usize; 11])]) {
-        let most = |k: usize| calls.iter().map(|(_, lengths)| lengths[k]).max().unwrap_or(0);
+    pub fn associated(&self, lists: &mut Lists, name: &str, threshold: f32, calls: &[Association]) {
+        let most = |k: usize| calls.iter().map(|call| call.lengths[k]).max().unwrap_or(0);
         let all = self.held_boxes(lists, [most(0), most(1), most(3), most(4)]);
         let far = inputs::distance_kind(self.kind, self.boxes);
         let distance = self.held_cells(lists, held::DISTANCE, inputs::DISTANCE, far, most(2));
@@ -168,12 +182,12 @@ impl Group {
             [held::DETECTIONS, held::CORNERS, held::DISTANCE, held::TRACK_CONFIDENCE, held::DETECTION_CONFIDENCE];
         let slices = [&all[0], &all[1], &distance, &all[2], &all[3]];
         let weight = |which: u64, usual: f32| inputs::weight(self.kind, self.boxes, which, usual);
-        let weights = [self.threshold()[0], weight(0, 0.5), weight(1, 0.25), weight(2, 0.25)];
-        for &(flags, lengths) in calls {
-            let inputs = slices.iter().zip(lengths).map(|(slice, length)| floats(slice, length)).collect();
+        let weights = [threshold, weight(0, 0.5), weight(1, 0.25), weight(2, 0.25)];
+        for Association { flags, lengths, labels } in calls {
+            let inputs = slices.iter().zip(lengths).map(|(slice, &length)| floats(slice, length)).collect();
             let (of_lists, work) = (lengths[5..9].to_vec(), [lengths[9], lengths[10]]);
-            let call = self.call(call::ASSOCIATE, inputs);
-            lists.call(name, &Call { flags, floats: weights, lists: of_lists, work, ..call }, &places);
+            let (flags, labels, call) = (*flags, labels.clone(), self.call(call::ASSOCIATE, inputs));
+            lists.call(name, &Call { flags, floats: weights, labels, lists: of_lists, work, ..call }, &places);
         }
     }
 
@@ -184,18 +198,23 @@ impl Group {
         (self.boxes + self.tracks) % 3
     }
 
-    fn each_flag(&self, lists: &mut Lists) {
+    /// A call of `associate` with labels of these kinds.
+    fn association(&self, flags: usize, labelling: usize) -> Association {
         let Group { kind, boxes, tracks } = *self;
         let (few, cells, more) = (boxes.min(tracks), square(boxes, tracks), self.spare());
-        let lengths = |flags: usize| {
-            let distances = if flags % 2 == 1 { boxes * tracks } else { 3 };
-            let sure = if flags / 2 % 2 == 1 { [tracks, boxes] } else { [2, 2] };
-            let results = [few + more, few + more, boxes + more, tracks + more];
-            let work = [cells + more, cells * 4 + more];
-            let all = [&[boxes * 4, tracks * 4, distances][..], &sure, &results, &work].concat();
-            (flags, all.try_into().expect("eleven"))
-        };
-        self.associated(lists, KINDS[kind], &(0..8).map(lengths).collect::<Vec<_>>());
+        let distances = if flags % 2 == 1 { boxes * tracks } else { 3 };
+        let sure = if flags / 2 % 2 == 1 { [tracks, boxes] } else { [2, 2] };
+        let results = [few + more, few + more, boxes + more, tracks + more];
+        let work = [cells + more, cells * 4 + more];
+        let lengths = [&[boxes * 4, tracks * 4, distances][..], &sure, &results, &work].concat();
+        let labels = [false, true].map(|of| inputs::labels(labelling, kind, of, if of { tracks } else { boxes }));
+        Association { flags, lengths: lengths.try_into().expect("eleven"), labels }
+    }
+
+    /// One label everywhere.
+    fn each_flag(&self, lists: &mut Lists) {
+        let calls: Vec<Association> = (0..8).map(|flags| self.association(flags, 0)).collect();
+        self.associated(lists, KINDS[self.kind], self.threshold()[0], &calls);
     }
 
     fn each_routine(&self, lists: &mut Lists) {
@@ -226,6 +245,7 @@ fn main() {
     let mut lists = Lists::default();
     accepted(&mut lists);
     refused::all(&mut lists);
+    labelled::all(&mut lists);
     let out = match std::env::args().nth(1).as_deref() {
         Some("stdin") => lists.records.0,
         Some("vectors") => lists.text.into_bytes(),

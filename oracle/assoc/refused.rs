@@ -1,8 +1,8 @@
 //! The calls of crates/assoc_vectors that are turned down: two boxes and three tracks, but for one length, or for a side
 //! above 255.
 
-use crate::{Group, Lists};
-use oracle::inputs::CROWD;
+use crate::{Association, Group, Lists};
+use oracle::inputs::{CROWD, labels};
 
 const NAME: &str = "refused";
 
@@ -66,8 +66,10 @@ fn of_assignment(lists: &mut Lists) {
 }
 
 fn of_association(lists: &mut Lists) {
-    let mut associated =
-        |boxes, tracks, flags, lengths| group(boxes, tracks).associated(lists, NAME, &[(flags, lengths)]);
+    let mut associated = |boxes, tracks, flags, lengths| {
+        let labels = [labels(0, CROWD, false, boxes), labels(0, CROWD, true, tracks)];
+        group(boxes, tracks).associated(lists, NAME, 0.3, &[Association { flags, lengths, labels }]);
+    };
     associated(256, 3, 7, [1024, 12, 768, 3, 256, 3, 3, 256, 3, 65536, 262144]);
     associated(2, 256, 0, [8, 1024, 0, 0, 0, 2, 2, 2, 256, 65536, 262144]);
     associated(2, 3, 0, [7, 12, 0, 0, 0, 2, 2, 2, 3, 9, 36]);

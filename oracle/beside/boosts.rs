@@ -7,6 +7,7 @@ use crate::frames;
 use crate::program::printed;
 use crate::report::{Found, Report, caught};
 use oracle::boosts::Boosts;
+use oracle::boxes::Boxes;
 use oracle::frame::{Table, needed};
 use oracle::input::Input;
 use oracle::random::Random;
@@ -22,14 +23,15 @@ struct Worked {
 }
 
 /// Works a frame; where it is refused there is nothing to compare.
-fn worked(table: &mut Table, boxes: &[f32], lengths: [usize; 3]) -> Option<Worked> {
+fn worked(table: &mut Table, boxes: &Boxes, lengths: [usize; 3]) -> Option<Worked> {
     let input = Input::new(table, boxes, lengths);
     let answer = table.update(boxes, lengths);
     if answer.refusal != 0 {
         return None;
     }
     let name = format!("frame {}", input.state.frames);
-    let boosts = Boosts { name, settings: &input.settings, answer: &answer };
+    let labels = [&boxes.labels[..], &input.labels[..input.state.count as usize]];
+    let boosts = Boosts { name, settings: &input.settings, answer: &answer, labels };
     let mut records = Records::default();
     boosts.record(&mut records);
     let line = boosts.line();
@@ -76,7 +78,7 @@ fn from_table(random: &Random, all: &mut Vec<Worked>) {
     let mut table = manner.table(random);
     for _ in 0..1 + random.below(5) {
         let boxes = manner.boxes(&table, random);
-        let lengths = needed(table.state.count as usize, boxes.len() / 5);
+        let lengths = needed(table.state.count as usize, boxes.count());
         all.extend(worked(&mut table, &boxes, lengths));
     }
 }
@@ -85,10 +87,11 @@ fn from_table(random: &Random, all: &mut Vec<Worked>) {
 fn scene(random: &Random, all: &mut Vec<Worked>) {
     let mut scene = scenes::seeded(random.index(72), random.word());
     scene.settings = tables::settings(random);
+    scene.labelling = frames::labelling(random);
     let mut table = scene.start();
     for f in 0..scene.frames {
         let boxes = scene.boxes(f);
-        let lengths = scene.lengths(f, table.state.count as usize, boxes.len() / 5);
+        let lengths = scene.lengths(f, table.state.count as usize, boxes.count());
         all.extend(worked(&mut table, &boxes, lengths));
     }
 }

@@ -24,6 +24,10 @@ impl Case {
         self.words(name, &floats.iter().map(|x| x.to_bits() as u64).collect::<Vec<_>>())
     }
 
+    pub fn bytes(self, name: &str, bytes: &[u8]) -> Case {
+        self.words(name, &bytes.iter().map(|&k| k as u64).collect::<Vec<_>>())
+    }
+
     pub fn doubles(self, name: &str, doubles: &[f64]) -> Case {
         self.words(name, &doubles.iter().map(|x| x.to_bits()).collect::<Vec<_>>())
     }
@@ -39,6 +43,10 @@ impl Case {
 
     pub fn get_floats(&self, name: &str) -> Vec<f32> {
         self.get(name).iter().map(|&k| f32::from_bits(k as u32)).collect()
+    }
+
+    pub fn get_bytes(&self, name: &str) -> Vec<u8> {
+        self.get(name).iter().map(|&k| k as u8).collect()
     }
 
     pub fn get_doubles(&self, name: &str) -> Vec<f64> {

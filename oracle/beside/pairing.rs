@@ -17,6 +17,7 @@ const BESIDE: (f32, usize, f64) = (3.5, 5, 2.5);
 
 struct Slices {
     inputs: Vec<Lent<f32>>,
+    labels: [Lent<u8>; 2],
     out: Lent<f32>,
     lists: Vec<Lent<usize>>,
     work64: Lent<f64>,
@@ -27,6 +28,7 @@ impl Slices {
     fn new(call: &Call) -> Slices {
         Slices {
             inputs: call.inputs.iter().map(|s| Lent::new(s, BESIDE.0)).collect(),
+            labels: call.labels.each_ref().map(|s| Lent::new(s, 9)),
             out: Lent::filled(call.out, CELL, BESIDE.0),
             lists: call.lists.iter().map(|&length| Lent::filled(length, LIST, BESIDE.1)).collect(),
             work64: Lent::filled(call.work[0], WORK, BESIDE.2),
@@ -38,6 +40,7 @@ impl Slices {
         let given = self.inputs.into_iter().map(|s| s.back()).zip(&call.inputs);
         let kept = |(s, input): (Vec<f32>, &Vec<f32>)| s.iter().zip(input).all(|(a, b)| a.to_bits() == b.to_bits());
         assert!(given.into_iter().all(kept), "an input was written");
+        assert!(self.labels.map(|s| s.back()) == call.labels, "a label was written");
         Answer {
             words,
             out: self.out.back(),
@@ -96,14 +99,15 @@ fn assigned(call: &Call, s: &mut Slices) -> Vec<u64> {
 fn associated(call: &Call, s: &mut Slices) -> Vec<u64> {
     let inputs = s.inputs.first_chunk_mut().expect("five inputs").each_mut().map(|i| (i.start(), i.len()));
     let [boxes, corners, distance, tc, dc] = inputs;
+    let [dl, tl] = s.labels.each_mut().map(|i| (i.start(), i.len()));
     let [p, q, d, t] = s.lists.first_chunk_mut().expect("four lists").each_mut().map(|i| (i.start(), i.len()));
     let (work64, work32) = ((s.work64.start(), s.work64.len()), (s.work32.start(), s.work32.len()));
     let uses = [call.flags / 4 % 2 == 1, call.flags % 2 == 1, call.flags / 2 % 2 == 1];
     let a = unsafe {
         port::bedside_associate(
             port::Params { floats: call.floats, uses }, call.boxes, call.tracks, boxes.0, boxes.1, corners.0,
-            corners.1, distance.0, distance.1, tc.0, tc.1, dc.0, dc.1, p.0, p.1, q.0, q.1, d.0, d.1, t.0, t.1,
-            work64.0, work64.1, work32.0, work32.1,
+            corners.1, distance.0, distance.1, tc.0, tc.1, dc.0, dc.1, dl.0, dl.1, tl.0, tl.1, p.0, p.1, q.0, q.1, d.0,
+            d.1, t.0, t.1, work64.0, work64.1, work32.0, work32.1,
         )
     };
     [&[a.refusal as u64], &a.counts[..]].concat()
@@ -162,6 +166,7 @@ fn agree(call: &Call) -> Found {
 fn case(call: &Call) -> Case {
     let numbers = [call.routine, call.boxes, call.tracks, call.flags, call.out, call.work[0], call.work[1]];
     let case = Case::new("assoc").numbers("numbers", &numbers).numbers("lists", &call.lists);
+    let case = case.bytes("box_labels", &call.labels[0]).bytes("track_labels", &call.labels[1]);
     let inputs = call.inputs.iter().enumerate();
     inputs.fold(case.floats("floats", &call.floats), |case, (k, s)| case.floats(&format!("input{k}"), s))
 }
@@ -172,8 +177,8 @@ pub fn check(case: &Case) -> Found {
     let count = [3, 3, 3, 3, 1, 1, 2, 5][routine];
     let inputs = (0..count).map(|k| case.get_floats(&format!("input{k}"))).collect();
     let floats = case.get_floats("floats").try_into().expect("four floats");
-    let lists = case.get_numbers("lists");
-    agree(&Call { routine, boxes, tracks, flags, floats, inputs, out, lists, work: [work64, work32] })
+    let (lists, labels) = (case.get_numbers("lists"), ["box_labels", "track_labels"].map(|name| case.get_bytes(name)));
+    agree(&Call { routine, boxes, tracks, flags, floats, inputs, labels, out, lists, work: [work64, work32] })
 }
 
 // ---- random calls
@@ -219,11 +224,19 @@ fn inputs_of(routine: usize, boxes: usize, tracks: usize, random: &Random) -> Ve
 
 fn floats_of(routine: usize, random: &Random) -> [f32; 4] {
     let usual = if routine == call::SIMILARITY { 1.0 } else { 0.3 };
-    let first = random.pick(&[usual, usual, 0.0, 0.5, random.unit(), random.any()]);
+    let below = random.pick(&[-1.0, f32::NEG_INFINITY, f32::NAN]);
+    let first = random.pick(&[usual, usual, 0.0, 0.5, random.unit(), random.any(), below]);
     let weights = [0.5, 0.25, 0.25];
     let other = [random.unit(), random.any(), inputs::listed(random.word())];
     let [a, b, c] = random.pick(&[weights, weights, other]);
     [first, a, b, c]
+}
+
+/// One label everywhere in half of the calls; in the rest any, or one of two.
+fn labels_of(routine: usize, sides: [usize; 2], random: &Random) -> [Vec<u8>; 2] {
+    let (most, first) = (random.pick(&[1, 1, 2, 3]), random.below(3));
+    let label = |_| 1 + ((first + random.below(most)) % 3) as u8;
+    sides.map(|side| if routine == call::ASSOCIATE { (0..side).map(label).collect() } else { vec![] })
 }
 
 fn made(random: &Random) -> Call {
@@ -237,13 +250,27 @@ fn made(random: &Random) -> Call {
     let work = [if routine < call::MATCH { 0 } else { work[0] }, if routine < call::ASSOCIATE { 0 } else { work[1] }];
     let (flags, floats) = (random.index(8), floats_of(routine, random));
     let inputs = inputs_of(routine, boxes, tracks, random);
-    Call { routine, boxes, tracks, flags, floats, inputs, out, lists, work }
+    let labels = labels_of(routine, [boxes, tracks], random);
+    Call { routine, boxes, tracks, flags, floats, inputs, labels, out, lists, work }
 }
 
-/// A side or a length off; of an input that is not looked at, nothing follows.
+/// A label that is none, or one more or less.
+fn spoil_labels(labels: &mut Vec<u8>, random: &Random) {
+    match random.below(3) {
+        0 => drop(labels.pop()),
+        1 => labels.push(1),
+        _ if labels.is_empty() => {}
+        _ => {
+            let k = random.index(labels.len());
+            labels[k] = random.pick(&[0, 4, 255]);
+        }
+    }
+}
+
+/// A side, a length or a label off; of an input that is not looked at, nothing follows.
 fn spoil(call: &mut Call, random: &Random) {
     let off = |length: &mut usize, random: &Random| *length = random.pick(&[length.saturating_sub(1), 0]);
-    match random.below(7) {
+    match random.below(9) {
         0 => call.boxes = random.pick(&[256, 300, call.boxes + 1, 1 << 62, usize::MAX]),
         1 => call.tracks = random.pick(&[256, 300, call.tracks + 1, 1 << 62, usize::MAX]),
         2 => off(&mut call.out, random),
@@ -252,6 +279,7 @@ fn spoil(call: &mut Call, random: &Random) {
             let k = random.index(call.lists.len());
             off(&mut call.lists[k], random);
         }
+        5 | 6 if call.routine == call::ASSOCIATE => spoil_labels(&mut call.labels[random.index(2)], random),
         _ => {
             let k = random.index(call.inputs.len());
             let length = call.inputs[k].len();

@@ -106,15 +106,16 @@ unsafe extern "C" {
     pub fn bedside_associate(
         params: Params, boxes: usize, tracks: usize, detections: In, detections_len: usize, corners: In,
         corners_len: usize, mahalanobis: In, mahalanobis_len: usize, track_confidence: In,
-        track_confidence_len: usize, detection_confidence: In, detection_confidence_len: usize, pair_boxes: List,
-        pair_boxes_len: usize, pair_tracks: List, pair_tracks_len: usize, unmatched_detections: List,
+        track_confidence_len: usize, detection_confidence: In, detection_confidence_len: usize,
+        detection_labels: *const u8, detection_labels_len: usize, track_labels: *const u8, track_labels_len: usize,
+        pair_boxes: List, pair_boxes_len: usize, pair_tracks: List, pair_tracks_len: usize, unmatched_detections: List,
         unmatched_detections_len: usize, unmatched_tracks: List, unmatched_tracks_len: usize, work64: *mut f64,
         work64_len: usize, work32: Out, work32_len: usize,
     ) -> Assignment;
 
     pub fn bedside_update(
         settings: Settings, state: State, floats: Out, floats_len: usize, counters: *mut u64, counters_len: usize,
-        boxes: In, boxes_len: usize, out: *mut u8, out_len: usize, work64: *mut f64, work64_len: usize, work32: Out,
-        work32_len: usize,
+        labels: *mut u8, labels_len: usize, boxes: In, boxes_len: usize, box_labels: *const u8, box_labels_len: usize,
+        out: *mut u8, out_len: usize, work64: *mut f64, work64_len: usize, work32: Out, work32_len: usize,
     ) -> Updated;
 }

@@ -6,6 +6,7 @@
 //!     finite         of each scene how many frames were accepted, and in how many every value was finite
 //!     whole SCENE    the boxes, records and tracks of one scene, in bits
 
+use oracle::boxes::Boxes;
 use oracle::digest::bits;
 use oracle::frame::{Answer, CAP, Table};
 use oracle::lines;
@@ -17,7 +18,7 @@ use std::io::Write;
 /// What is done with the frames of a scene.
 trait Audience {
     fn begins(&mut self, name: &str, table: &Table);
-    fn frame(&mut self, boxes: &[f32], table: &Table, answer: &Answer, lengths: [usize; 3]);
+    fn frame(&mut self, boxes: &Boxes, table: &Table, answer: &Answer, lengths: [usize; 3]);
 }
 
 fn name(scene: &Scene) -> String {
@@ -42,7 +43,7 @@ fn play_scene(mut scene: Scene, audience: &mut impl Audience) {
     audience.begins(&name(&scene), &table);
     for f in 0..scene.frames {
         let boxes = scene.boxes(f);
-        let lengths = scene.lengths(f, table.state.count as usize, boxes.len() / 5);
+        let lengths = scene.lengths(f, table.state.count as usize, boxes.count());
         let answer = table.update(&boxes, lengths);
         audience.frame(&boxes, &table, &answer, lengths);
     }
@@ -69,7 +70,7 @@ impl Audience for Input {
         self.0.table(name, table);
     }
 
-    fn frame(&mut self, boxes: &[f32], _: &Table, _: &Answer, lengths: [usize; 3]) {
+    fn frame(&mut self, boxes: &Boxes, _: &Table, _: &Answer, lengths: [usize; 3]) {
         self.0.frame(boxes, lengths);
     }
 }
@@ -82,7 +83,7 @@ impl Audience for Lines {
         self.0 += &(lines::table(name, table) + "\n");
     }
 
-    fn frame(&mut self, boxes: &[f32], table: &Table, answer: &Answer, lengths: [usize; 3]) {
+    fn frame(&mut self, boxes: &Boxes, table: &Table, answer: &Answer, lengths: [usize; 3]) {
         self.0 += &(lines::frame(boxes, table, answer, lengths) + "\n");
     }
 }
@@ -98,7 +99,7 @@ struct Finite {
 impl Audience for Finite {
     fn begins(&mut self, _: &str, _: &Table) {}
 
-    fn frame(&mut self, _: &[f32], _: &Table, answer: &Answer, _: [usize; 3]) {
+    fn frame(&mut self, _: &Boxes, _: &Table, answer: &Answer, _: [usize; 3]) {
         self.accepted += (answer.refusal == 0) as usize;
         self.finite += (answer.refusal == 0 && answer.finite) as usize;
     }
@@ -127,12 +128,13 @@ impl Audience for Whole {
         println!("{}", lines::table(name, table));
     }
 
-    fn frame(&mut self, boxes: &[f32], table: &Table, answer: &Answer, lengths: [usize; 3]) {
+    fn frame(&mut self, boxes: &Boxes, table: &Table, answer: &Answer, lengths: [usize; 3]) {
         println!("{}", lines::frame(boxes, table, answer, lengths));
-        boxes.chunks(5).for_each(|b| show("box", b));
-        answer.records.iter().for_each(|r| show(&format!("record {} {}", r.frame, r.id), &r.floats));
+        boxes.each().for_each(|(b, label)| show(&format!("box {label}"), &b));
+        answer.records.iter().for_each(|r| show(&format!("record {} {} {}", r.frame, r.id, r.label), &r.floats));
         for i in 0..table.state.count as usize {
-            show(&format!("track {:?}", &table.counters[4 * i..4 * i + 4]), &table.floats[24 * i..24 * i + 24]);
+            let name = format!("track {:?} {}", &table.counters[4 * i..4 * i + 4], table.labels[i]);
+            show(&name, &table.floats[24 * i..24 * i + 24]);
         }
     }
 }

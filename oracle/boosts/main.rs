@@ -4,9 +4,10 @@
 //!     vectors    what it has to print, by the published tracker
 
 use oracle::boosts::Boosts;
+use oracle::boxes::Boxes;
 use oracle::frame::{Answer, Table};
 use oracle::records::Records;
-use oracle::scenes::{self, KINDS, SCENES};
+use oracle::scenes::{self, KINDS, LABELLED, SCENES};
 use std::io::Write;
 
 /// What goes into the input, and what has to be printed.
@@ -17,8 +18,9 @@ struct Lists {
 }
 
 impl Lists {
-    fn frame(&mut self, name: String, table: &Table, answer: &Answer) {
-        let boosts = Boosts { name, settings: &table.settings, answer };
+    /// A frame over a table that held tracks with these labels.
+    fn frame(&mut self, name: String, table: &Table, held: &[u8], boxes: &Boxes, answer: &Answer) {
+        let boosts = Boosts { name, settings: &table.settings, answer, labels: [&boxes.labels, held] };
         boosts.record(&mut self.records);
         self.text += &(boosts.line() + "\n");
     }
@@ -30,7 +32,7 @@ fn shown(s: usize, f: usize, first: bool, answer: &Answer) -> bool {
     let stages = &answer.stages;
     let some = answer.refusal == 0 && !stages.tracks.is_empty() && !stages.corners.is_empty();
     let changes = || stages.scores[0] != stages.scores[2];
-    some && (first || if s < 72 { changes() && f % 3 == 1 || f % 12 == 0 } else { f % 10 == 1 })
+    some && (first || if !(72..LABELLED).contains(&s) { changes() && f % 3 == 1 || f % 12 == 0 } else { f % 10 == 1 })
 }
 
 fn play(lists: &mut Lists, s: usize) {
@@ -39,11 +41,12 @@ fn play(lists: &mut Lists, s: usize) {
     let mut first = true;
     for f in 0..scene.frames {
         let boxes = scene.boxes(f);
-        let lengths = scene.lengths(f, table.state.count as usize, boxes.len() / 5);
+        let held = table.labels[..table.state.count as usize].to_vec();
+        let lengths = scene.lengths(f, held.len(), boxes.count());
         let answer = table.update(&boxes, lengths);
         if shown(s, f, first, &answer) {
             first = false;
-            lists.frame(format!("scene {s} {} {f}", KINDS[scene.kind]), &table, &answer);
+            lists.frame(format!("scene {s} {} {f}", KINDS[scene.kind]), &table, &held, &boxes, &answer);
         }
     }
 }

@@ -12,6 +12,7 @@ pub mod byte_tracker {
 }
 pub mod counters;
 pub mod error;
+pub mod labels;
 pub mod lapjv;
 pub mod object;
 pub mod rect;

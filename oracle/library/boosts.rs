@@ -19,6 +19,8 @@ pub struct Boosts<'a> {
     pub name: String,
     pub settings: &'a Settings,
     pub answer: &'a Answer,
+    /// Of the boxes, and of the tracks that were held before it.
+    pub labels: [&'a [u8]; 2],
 }
 
 impl Boosts<'_> {
@@ -55,11 +57,13 @@ impl Boosts<'_> {
             end += list.len();
             end
         });
+        let of_retained: Vec<u8> = s.retained.iter().map(|&k| self.labels[0][k]).collect();
         records.words(&self.words(&ends));
-        records.title(&self.name);
-        records.floats(&s.scores[0]);
         records.words(&s.times);
         lists.iter().for_each(|list| records.floats(list));
+        [self.labels[0], self.labels[1], &of_retained].iter().for_each(|labels| records.bytes(labels));
+        records.title(&self.name);
+        records.floats(&s.scores[0]);
     }
 
     /// Scores after DLO and after DUO, the retained boxes; their distances; counts and lists of their pairs.

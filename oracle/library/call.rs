@@ -1,8 +1,9 @@
-//! A call of a routine of the pairing: what it is given and lent, and what the published assoc.rs makes of it, or the
-//! scope document's refusal.
+//! A call of a routine of the pairing: what it is given and lent, and what the published assoc.rs makes of it, of labels
+//! by the rule that is put into it, or the refusal of the scope document and of document 02.
 
+use crate::verdict::unlabelled;
 use jamtrack_rs::boost_tracker::assoc::{self, AssignmentResult, AssociateParams};
-use jamtrack_rs::counters;
+use jamtrack_rs::{counters, labels};
 use nalgebra::DMatrix;
 
 pub const ROUTINES: [&str; 8] = [
@@ -30,6 +31,8 @@ pub struct Call {
     pub floats: [f32; 4],
     /// In the order of include/bedside.h. The confidences of a routine that takes none are not looked at.
     pub inputs: Vec<Vec<f32>>,
+    /// Of `associate`: the labels of the boxes and of the tracks.
+    pub labels: [Vec<u8>; 2],
     /// Lengths of the matrix, of the lists and of both work slices.
     pub out: usize,
     pub lists: Vec<usize>,
@@ -89,15 +92,27 @@ impl Call {
         }
     }
 
-    /// The lowest that applies: 31 too many, 32 another size, 33 too short.
+    /// Of `associate`: "label slices count under 32".
+    fn other_labels(&self) -> bool {
+        self.routine == ASSOCIATE && (self.labels[0].len() != self.boxes || self.labels[1].len() != self.tracks)
+    }
+
+    /// "34 such a label in associating, the one pairing routine that takes labels": of either side.
+    fn not_labelled(&self) -> bool {
+        self.routine == ASSOCIATE && self.labels.iter().flatten().copied().any(unlabelled)
+    }
+
+    /// The lowest that applies: 31 too many, 32 another size, 33 too short, 34 a label that is none.
     pub fn refusal(&self) -> u64 {
         let unlike = |(input, wanted): (&Vec<f32>, Option<usize>)| wanted.is_some_and(|length| length != input.len());
         if self.boxes > 255 || self.tracks > 255 {
             31
-        } else if self.inputs.iter().zip(self.wanted()).any(unlike) {
+        } else if self.inputs.iter().zip(self.wanted()).any(unlike) || self.other_labels() {
             32
         } else if self.short() {
             33
+        } else if self.not_labelled() {
+            34
         } else {
             0
         }
@@ -139,6 +154,7 @@ impl Call {
 
     fn associated(&self) -> AssignmentResult {
         let confidence = |input: usize| (self.flags / 2 % 2 == 1).then_some(&self.inputs[input][..]);
+        labels::give(&self.labels[0], &self.labels[1]);
         assoc::associate(
             &boxes_of(&self.inputs[0]),
             &boxes_of(&self.inputs[1]),
@@ -209,6 +225,7 @@ impl Call {
             return self.empty(refusal);
         }
         counters::take();
+        labels::take();
         match self.routine {
             SIMILARITY => self.with_matrix(&assoc::mh_dist_similarity(&self.matrix(0), self.floats[0])),
             MATCH => {

@@ -1,29 +1,33 @@
 //! A lent table and the published tracker that works its frames.
 
+use crate::boxes::Boxes;
 use crate::verdict::{Call, State, capacity, verdict};
 use jamtrack_rs::boost_tracker::boost_tracker::BoostTracker;
 use jamtrack_rs::boost_tracker::boost_tracker::inside::{self, Settings};
 use jamtrack_rs::boost_tracker::strack::inside::Track;
 use jamtrack_rs::counters;
+use jamtrack_rs::labels;
 use jamtrack_rs::object::Object;
 use jamtrack_rs::rect::Rect;
 use jamtrack_rs::stages::{self, Stages};
+use std::collections::HashMap;
 
 /// The flag of the port's setting cap_confidence, of which the published tracker knows nothing.
 pub const CAP: u64 = 64;
 
-/// An emitted track: frame, id, and left, top, width, height, confidence.
+/// An emitted track: frame, id, left, top, width, height, confidence, and label.
 pub struct Record {
     pub frame: u32,
     pub id: u64,
     pub floats: [f32; 5],
+    pub label: u8,
 }
 
 impl Record {
     /// As the output has it.
     pub fn bytes(&self) -> Vec<u8> {
         let floats = self.floats.map(|x| x.to_le_bytes()).concat();
-        [&self.frame.to_le_bytes()[..], &self.id.to_le_bytes(), &floats].concat()
+        [&self.frame.to_le_bytes()[..], &self.id.to_le_bytes(), &floats, &[self.label]].concat()
     }
 
     /// As the setting cap_confidence has it: "an emitted confidence above 1 is written as 1".
@@ -50,6 +54,7 @@ pub struct Table {
     pub state: State,
     pub floats: Vec<f32>,
     pub counters: Vec<u64>,
+    pub labels: Vec<u8>,
     tracker: Option<BoostTracker>,
 }
 
@@ -77,12 +82,16 @@ fn clear_flags() {
 /// What output and work slices have to have.
 pub fn needed(held: usize, boxes: usize) -> [usize; 3] {
     let n = held.max(boxes);
-    [32 * (held + boxes), n * n, 4 * n * n]
+    [33 * (held + boxes), n * n, 4 * n * n]
 }
 
 impl Table {
-    pub fn new(settings: Settings, state: State, floats: Vec<f32>, counters: Vec<u64>) -> Table {
-        Table { settings, state, floats, counters, tracker: None }
+    pub fn new(settings: Settings, state: State, floats: Vec<f32>, counters: Vec<u64>, labels: Vec<u8>) -> Table {
+        Table { settings, state, floats, counters, labels, tracker: None }
+    }
+
+    pub fn places(&self) -> usize {
+        capacity(&self.floats, &self.counters, &self.labels)
     }
 
     fn tracks(&self) -> Vec<Track> {
@@ -104,25 +113,34 @@ impl Table {
     }
 
     /// The tracker's tracks in the first places, zeros in the others; cells past the places as they were.
-    fn store(&mut self) {
+    fn store(&mut self, of_ids: &HashMap<usize, u8>) {
         let (tracks, last, frames) = inside::table(self.tracker.as_ref().unwrap());
-        let places = capacity(&self.floats, &self.counters);
+        let places = self.places();
         self.floats[..24 * places].fill(0.0);
         self.counters[..4 * places].fill(0);
+        self.labels[..places].fill(0);
         for (i, t) in tracks.iter().enumerate() {
             self.floats[24 * i..24 * i + 24].copy_from_slice(&t.floats);
             self.counters[4 * i..4 * i + 4].copy_from_slice(&t.counters);
+            self.labels[i] = of_ids[&(t.counters[0] as usize)];
         }
         self.state = State { count: tracks.len() as u64, last, frames };
     }
 
-    /// A frame with these boxes, of five floats each, and memory lent in these lengths.
-    pub fn update(&mut self, boxes: &[f32], [out, work64, work32]: [usize; 3]) -> Answer {
+    /// The labels of a frame, for the rule in the published files.
+    fn give_labels(&self, boxes: &Boxes) {
+        let ids = self.counters.chunks_exact(4).map(|track| track[0] as usize);
+        labels::give_frame(&boxes.labels, ids.zip(self.labels.iter().copied()).take(self.state.count as usize));
+    }
+
+    /// A frame with these boxes, and memory lent in these lengths.
+    pub fn update(&mut self, boxes: &Boxes, [out, work64, work32]: [usize; 3]) -> Answer {
         let call = Call {
             settings: &self.settings,
             state: self.state,
             floats: &self.floats,
             counters: &self.counters,
+            labels: &self.labels,
             boxes,
             out,
             work64,
@@ -132,20 +150,23 @@ impl Table {
         if refusal != 0 {
             return Answer { refusal, index, records: vec![], turns: 0, scans: 0, finite: true, stages: Stages::default() };
         }
-        let objects: Vec<Object> =
-            boxes.chunks_exact(5).map(|b| Object::new(Rect::new(b[0], b[1], b[2], b[3]), b[4], None)).collect();
+        let object = |[left, top, width, height, score]: [f32; 5]| {
+            Object::new(Rect::new(left, top, width, height), score, None)
+        };
+        let objects: Vec<Object> = boxes.each().map(|(values, _)| object(values)).collect();
+        self.give_labels(boxes);
         let tracker = self.tracker();
         counters::take();
         clear_flags();
         let emitted = tracker.update(&objects).expect("the Rust's update gives no error");
         let finite = finite();
-        let (counts, stages) = (counters::take(), stages::take());
-        self.store();
+        let (counts, stages, of_ids) = (counters::take(), stages::take(), labels::take());
+        self.store(&of_ids);
         let frame = self.state.frames as u32;
-        let record = |o: &Object| Record {
-            frame,
-            id: o.get_track_id().expect("an id") as u64,
-            floats: [o.get_x(), o.get_y(), o.get_width(), o.get_height(), o.get_prob()],
+        let record = |o: &Object| {
+            let id = o.get_track_id().expect("an id");
+            let floats = [o.get_x(), o.get_y(), o.get_width(), o.get_height(), o.get_prob()];
+            Record { frame, id: id as u64, floats, label: of_ids[&id] }
         };
         let cap = self.settings.flags & CAP != 0;
         let records = emitted.iter().map(record).map(|r| if cap { r.capped() } else { r }).collect();

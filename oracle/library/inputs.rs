@@ -77,10 +77,10 @@ fn size(kind: usize, p: u64) -> f32 {
     }
 }
 
-/// x1, y1, x2 or y2 of box i.
+/// x1, y1, x2 or y2 of box i. Of any bit patterns each is drawn by itself, by steps enough for k to reach every bit.
 fn corner(kind: usize, i: usize, k: u64, r: u64) -> f32 {
     match kind {
-        5 => return any(next(r ^ k)),
+        5 => return any(next(next(next(r ^ k * 0x9e37_79b9)))),
         8 => return listed(part(r, k)),
         4 if r % 4 == 0 => return listed(part(r, k)),
         _ => {}
@@ -182,4 +182,23 @@ pub fn weight(kind: usize, boxes: usize, which: u64, usual: f32) -> f32 {
     } else {
         usual
     }
+}
+
+// ---- labels
+
+/// Both sides the same; two kinds; three kinds; three kinds, those of the tracks another way round; no two alike.
+pub const LABELLINGS: [&str; 5] = ["same", "two", "three", "mixed", "unlike"];
+
+/// The labels of so many boxes, or of so many tracks.
+pub fn labels(labelling: usize, kind: usize, tracks: bool, length: usize) -> Vec<u8> {
+    let of = |i: usize| match (labelling, tracks) {
+        (0, _) => kind,
+        (1, _) => i % 2,
+        (2, _) => i,
+        (3, false) => part(next(next(i as u64 + 1)), 0) as usize,
+        (3, true) => part(next(next(i as u64 + 1)), 1) as usize,
+        (_, false) => i % 2,
+        (_, true) => 2,
+    };
+    (0..length).map(|i| 1 + (of(i) % 3) as u8).collect()
 }

@@ -2,6 +2,7 @@
 //! document's refusals and rules written from its words, digests, and the records and lines of the fixed lists.
 
 pub mod boosts;
+pub mod boxes;
 pub mod call;
 pub mod digest;
 pub mod drawn;

@@ -1,5 +1,6 @@
 //! What crates/boost_tracker_vectors has to print of a table and of a frame.
 
+use crate::boxes::Boxes;
 use crate::digest::Digest;
 use crate::frame::{Answer, Table};
 use crate::records::{table_words, title};
@@ -10,7 +11,7 @@ pub const BYTE: u8 = 7;
 pub const WORK: f32 = 1.0;
 
 fn table_digest(table: &Table) -> Digest {
-    Digest::new().floats(&table.floats).words(table.counters.iter().copied())
+    Digest::new().floats(&table.floats).words(table.counters.iter().copied()).bytes(&table.labels)
 }
 
 /// The records and the bytes behind them; a double and a float of 1 or 0 for each cell of the work slices.
@@ -29,17 +30,17 @@ pub fn table(name: &str, table: &Table) -> String {
 }
 
 /// A frame: what it answered and left.
-pub fn frame(boxes: &[f32], table: &Table, answer: &Answer, lengths: [usize; 3]) -> String {
+pub fn frame(boxes: &Boxes, table: &Table, answer: &Answer, lengths: [usize; 3]) -> String {
     let State { count, last, frames } = table.state;
     format!(
         "frame {} | {} {} | {} {} {} | {count} {last} {frames} | {:016x} {:016x} {:016x}",
-        boxes.len() / 5,
+        boxes.count(),
         answer.refusal,
         answer.index,
         answer.records.len(),
         answer.turns,
         answer.scans,
-        Digest::new().floats(boxes).0,
+        Digest::new().floats(&boxes.values).bytes(&boxes.labels).0,
         table_digest(table).0,
         lent_digest(answer, lengths).0,
     )

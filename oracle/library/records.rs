@@ -1,6 +1,7 @@
 //! Records of the programs that replay fixed lists (docs/ORACLE.md): words of four bytes, the lowest first, which also
 //! stand for the bits of floats.
 
+use crate::boxes::Boxes;
 use crate::frame::Table;
 
 /// How wide a title is.
@@ -39,7 +40,11 @@ impl Records {
         self.0.extend(title(text).bytes());
     }
 
-    /// A lent table, in which 7 stands for what is not given.
+    pub fn bytes(&mut self, bytes: &[u8]) {
+        self.0.extend(bytes);
+    }
+
+    /// A lent table, in which 7 stands for floats and counters that are not given.
     pub fn table(&mut self, name: &str, table: &Table) {
         self.words(&[0]);
         self.words(&table_words(table));
@@ -47,14 +52,16 @@ impl Records {
         let [floats, counters] = given(table);
         self.floats(&table.floats[..floats]);
         self.words(&table.counters[..counters]);
+        self.bytes(&table.labels);
     }
 
     /// A frame over the table that was lent last.
-    pub fn frame(&mut self, boxes: &[f32], lengths: [usize; 3]) {
+    pub fn frame(&mut self, boxes: &Boxes, lengths: [usize; 3]) {
         self.words(&[1]);
-        self.numbers(&[boxes.len()]);
+        self.numbers(&[boxes.values.len(), boxes.labels.len()]);
         self.numbers(&lengths);
-        self.floats(boxes);
+        self.floats(&boxes.values);
+        self.bytes(&boxes.labels);
     }
 }
 
@@ -66,14 +73,14 @@ fn given(table: &Table) -> [usize; 2] {
 }
 
 /// Settings, state and lengths.
-pub fn table_words(table: &Table) -> [u64; 16] {
+pub fn table_words(table: &Table) -> [u64; 17] {
     let s = table.settings.words();
     let most = |age: u64| age.min(u32::MAX as u64);
     let state = table.state;
     let [floats, counters] = given(table).map(|k| k as u64);
-    let lent = [table.floats.len() as u64, table.counters.len() as u64];
+    let lent = [table.floats.len(), table.counters.len(), table.labels.len()].map(|k| k as u64);
     [
         s[8], s[0], s[1], s[2], s[3], s[4], s[5], most(s[6]), most(s[7]), state.count, state.last, state.frames, lent[0],
-        lent[1], floats, counters,
+        lent[1], lent[2], floats, counters,
     ]
 }

@@ -1,19 +1,23 @@
 //! Calls of a frame with edits that get it refused, or nearly, alone and together: three tracks, two boxes, six places.
 
+use crate::boxes::Boxes;
 use crate::frame::{Table, needed};
 use crate::scenes;
 use crate::verdict::State;
 
-const EDITS: usize = 51;
+const EDITS: usize = 63;
 
 /// The edits that stand for 11 to 19 where several are made at once.
 const OF_EACH: [usize; 9] = [0, 9, 15, 22, 21, 23, 35, 37, 39];
+
+/// The same with 10 and 20, in the order of the refusals.
+const LABELLED: [usize; 11] = [0, 51, 9, 15, 22, 21, 23, 56, 35, 37, 39];
 
 const BEYOND: f32 = f32::from_bits(0x4780_0001);
 
 struct Edited {
     table: Table,
-    boxes: Vec<f32>,
+    boxes: Boxes,
     /// What is lent more, or less, than is needed.
     out: isize,
     work64: isize,
@@ -31,13 +35,16 @@ fn base() -> Edited {
         counters[4 * i..4 * i + 4].copy_from_slice(&[2 * i as u64 + 2, i as u64, 3, 10]);
     }
     let settings = scenes::scene(0).settings;
-    let table = Table::new(settings, State { count: 3, last: 9, frames: 20 }, floats, counters);
+    let labels = [&[1; 3][..], &[scenes::JUNK as u8; 5]].concat();
+    let table = Table::new(settings, State { count: 3, last: 9, frames: 20 }, floats, counters, labels);
     Edited { table, boxes: boxes(2), out: 0, work64: 0, work32: 0 }
 }
 
 /// 40 apart, of 16 by 32.
-fn boxes(count: usize) -> Vec<f32> {
-    (0..count).flat_map(|i| [40.0 * i as f32 - 7.0, -16.0, 16.0, 32.0, 0.75]).collect()
+fn boxes(count: usize) -> Boxes {
+    let mut boxes = Boxes::default();
+    (0..count).for_each(|i| boxes.push([40.0 * i as f32 - 7.0, -16.0, 16.0, 32.0, 0.75], 1));
+    boxes
 }
 
 fn edit_state(call: &mut Edited, number: usize) {
@@ -88,7 +95,7 @@ fn edit_setting(call: &mut Edited, number: usize) {
 }
 
 fn edit_box(call: &mut Edited, number: usize) {
-    let b = &mut call.boxes;
+    let b = &mut call.boxes.values;
     match number {
         23 => b[0] = f32::NAN,
         24 => b[6] = f32::INFINITY,
@@ -107,6 +114,26 @@ fn edit_box(call: &mut Edited, number: usize) {
     }
 }
 
+/// Of the held tracks 0, 4 and a slice that ends before the last; of the boxes 0, 4, 255, one missing and all; what is
+/// accepted: three kinds, and labels behind the boxes that are none; and places by the labels, one too few and just enough.
+fn edit_labels(call: &mut Edited, number: usize) {
+    let (held, given) = (&mut call.table.labels, &mut call.boxes.labels);
+    match number {
+        51 => held[0] = 0,
+        52 => held[2] = 4,
+        53 => held.truncate(2),
+        54 => given[0] = 0,
+        55 => given[1] = 4,
+        56 => given.fill(255),
+        57 => given.truncate(1),
+        58 => given.clear(),
+        59 => (held[1], held[2], given[1]) = (2, 3, 2),
+        60 => given.extend([0, 9]),
+        61 => held.truncate(4),
+        _ => held.truncate(5),
+    }
+}
+
 fn edit(call: &mut Edited, number: usize) {
     match number {
         0..9 | 35 | 36 | 43 | 44 | 47 => edit_state(call, number),
@@ -116,14 +143,15 @@ fn edit(call: &mut Edited, number: usize) {
         22 => call.boxes = boxes(256),
         23..35 | 41 | 42 => edit_box(call, number),
         37 => call.out = -1,
-        38 => call.out = 31,
+        38 => call.out = 32,
         39 => call.work64 = -1,
         40 => call.work32 = -1,
         45 => call.boxes = boxes(3),
         // A rest of four floats that is not looked at; counters for a seventh place, and for four places alone.
-        48 => call.boxes.extend([f32::NAN; 4]),
+        48 => call.boxes.values.extend([f32::NAN; 4]),
         49 => call.table.counters.extend([scenes::JUNK; 4]),
-        _ => call.table.counters.truncate(19),
+        50 => call.table.counters.truncate(19),
+        _ => edit_labels(call, number),
     }
 }
 
@@ -131,7 +159,7 @@ fn edit(call: &mut Edited, number: usize) {
 pub struct Single {
     pub mask: u64,
     pub table: Table,
-    pub boxes: Vec<f32>,
+    pub boxes: Boxes,
     pub lengths: [usize; 3],
 }
 
@@ -140,15 +168,21 @@ fn single(mask: u64) -> Single {
     let mut call = base();
     (0..EDITS).filter(|k| mask >> k & 1 == 1).for_each(|k| edit(&mut call, k));
     let Edited { table, boxes, out, work64, work32 } = call;
-    let needed = needed(table.state.count as usize, boxes.len() / 5);
+    let needed = needed(table.state.count as usize, boxes.count());
     let more = [out, work64, work32];
     Single { mask, table, boxes, lengths: std::array::from_fn(|k| needed[k].strict_add_signed(more[k])) }
 }
 
+/// Two of these at once, then all from each on but the last two.
+fn together(of_each: &'static [usize]) -> impl Iterator<Item = u64> {
+    let two = move |i: usize| of_each[i + 1..].iter().map(move |b| 1 << of_each[i] | 1 << b);
+    let many = (0..of_each.len() - 2).map(|i: usize| of_each[i..].iter().fold(0, |mask, k| mask | 1 << k));
+    (0..of_each.len()).flat_map(two).chain(many)
+}
+
+/// Those without an edit of labels first.
 pub fn all() -> Vec<Single> {
-    let alone = (0..EDITS).map(|k| 1 << k);
-    // Two of the numbers at once, then all from each on.
-    let two = |i: usize| OF_EACH[i + 1..].iter().map(move |b| 1 << OF_EACH[i] | 1 << b);
-    let many = (0..7).map(|i: usize| OF_EACH[i..].iter().fold(0, |mask, k| mask | 1 << k));
-    alone.chain((0..9).flat_map(two)).chain(many).map(single).collect()
+    let of_labels = |mask: &u64| mask >> 51 != 0;
+    let labelled = (51..EDITS).map(|k| 1 << k).chain(together(&LABELLED).filter(of_labels));
+    (0..51).map(|k| 1 << k).chain(together(&OF_EACH)).chain(labelled).map(single).collect()
 }

@@ -1,6 +1,7 @@
 //! The scope document's rules for the program trackbox, written from its words over the published tracker; nothing of
-//! the port's.
+//! the port's. Records have 25 bytes, the label last: document 02.
 
+use crate::boxes::Boxes;
 use crate::frame::{Record, Table};
 use crate::verdict::State;
 use jamtrack_rs::boost_tracker::boost_tracker::inside::Settings;
@@ -28,15 +29,15 @@ struct Trackbox {
     /// The frame of the last record, 0 at first.
     frame: u32,
     /// The boxes of the open frame, and its first record.
-    open: Vec<f32>,
+    open: Boxes,
     first: usize,
 }
 
 impl Trackbox {
     fn new() -> Trackbox {
         let state = State { count: 0, last: 0, frames: 0 };
-        let table = Table::new(SETTINGS, state, vec![0.0; LENT * 24], vec![0; LENT * 4]);
-        Trackbox { table, text: String::new(), frame: 0, open: vec![], first: 0 }
+        let table = Table::new(SETTINGS, state, vec![0.0; LENT * 24], vec![0; LENT * 4], vec![0; LENT]);
+        Trackbox { table, text: String::new(), frame: 0, open: Boxes::default(), first: 0 }
     }
 
     /// "Frame, id (decimal), left, top, width, height, confidence (8 lower-case hexadecimal digits of the bits)."
@@ -46,8 +47,8 @@ impl Trackbox {
     }
 
     /// Works a frame; its refusal names `record`.
-    fn work(&mut self, boxes: &[f32], record: usize) -> Result<(), Refused> {
-        let answer = self.table.update(boxes, [2 * LENT * 32, LENT * LENT, 4 * LENT * LENT]);
+    fn work(&mut self, boxes: &Boxes, record: usize) -> Result<(), Refused> {
+        let answer = self.table.update(boxes, [2 * LENT * 33, LENT * LENT, 4 * LENT * LENT]);
         if answer.refusal != 0 {
             return Err(Refused(answer.refusal, record));
         }
@@ -57,7 +58,7 @@ impl Trackbox {
 
     /// The open frame, if there is one: its refusal names its first record.
     fn close(&mut self) -> Result<(), Refused> {
-        if self.open.is_empty() {
+        if self.open.count() == 0 {
             return Ok(());
         }
         let boxes = std::mem::take(&mut self.open);
@@ -77,19 +78,19 @@ impl Trackbox {
             self.close()?;
             // "Skipped frame numbers are empty frames": a refusal of one names the record after it.
             for _ in self.frame + 1..frame {
-                self.work(&[], number)?;
+                self.work(&Boxes::default(), number)?;
             }
             (self.frame, self.first) = (frame, number);
         }
-        if self.open.len() == 5 * LENT {
+        if self.open.count() == LENT {
             return Err(Refused(44, number));
         }
-        self.open.extend((1..6).map(|k| f32::from_bits(word(k))));
+        self.open.push(std::array::from_fn(|k| f32::from_bits(word(k + 1))), bytes[24]);
         Ok(())
     }
 
     fn stream(&mut self, bytes: &[u8]) -> Result<(), Refused> {
-        let records = bytes.chunks_exact(24);
+        let records = bytes.chunks_exact(25);
         let rest = records.remainder();
         let mut number = 0;
         for record in records {

@@ -1,14 +1,15 @@
 //! The scenes of crates/boost_tracker_vectors: settings, starting tables and boxes out of whole numbers. docs/ORACLE.md
 //! has the rules in words.
 
+use crate::boxes::Boxes;
 use crate::digest::next;
 use crate::frame::{Table, needed};
 use crate::verdict::State;
 use jamtrack_rs::boost_tracker::boost_tracker::inside::Settings;
 
-pub const KINDS: [&str; 15] = [
+pub const KINDS: [&str; 17] = [
     "sleeper", "partner", "staff", "flicker", "crowd", "ties", "edges", "tiny", "flat", "far", "gaps", "low", "grid",
-    "throng", "fade",
+    "throng", "fade", "nurse", "ward",
 ];
 const STAFF: usize = 2;
 const TIES: usize = 5;
@@ -21,10 +22,13 @@ const LOW: usize = 11;
 const GRID: usize = 12;
 const THRONG: usize = 13;
 const FADE: usize = 14;
+const NURSE: usize = 15;
+const WARD: usize = 16;
 
-/// The scenes 0 to 71 go through the first twelve kinds six times; eight larger ones follow.
-pub const SCENES: usize = 80;
+/// The scenes 0 to 71 go through the first twelve kinds six times; eight larger ones follow, and six with labels.
+pub const SCENES: usize = 86;
 const LARGE: usize = 72;
+pub const LABELLED: usize = 80;
 
 /// Those that are worked once more with confidences capped: from an empty table, with gaps in the tracks, from a table
 /// that holds tracks, and with refused frames.
@@ -72,7 +76,7 @@ fn cast(kind: usize) -> Cast {
         1 => [2, 4096, 6400, 3200, 8, 128, 128, 8, 450, 574],
         2 => [4, 12800, 4800, 2400, 640, 128, 64, 10, 400, 624],
         3 => [6, 25600, 2560, 1280, 64, 64, 64, 2, 300, 724],
-        4 => [20, 8192, 1536, 2048, 192, 128, 64, 10, 300, 724],
+        4 | WARD => [20, 8192, 1536, 2048, 192, 128, 64, 10, 300, 724],
         5 => [10, 1, 2048, 0, 0, 0, 0, 5, 256, 768],
         6 => [6, 1, 1920, 0, 0, 0, 0, 0, 256, 768],
         7 => [8, 64, 0, 0, 0, 0, 0, 7, 300, 724],
@@ -82,6 +86,7 @@ fn cast(kind: usize) -> Cast {
         11 => [12, 65535, 2560, 1280, 32, 64, 64, 4, 400, 500],
         12 => [0, 1, 2048, 0, 0, 64, 0, 0, 768, 128],
         13 => [0, 25600, 1536, 1024, 0, 64, 64, 0, 400, 624],
+        NURSE => [3, 1, 6400, 0, 0, 64, 64, 12, 512, 512],
         _ => [24, 1, 4096, 0, 0, 0, 0, 0, 307, 0],
     };
     let [actors, field, size, sizes, speed, jitter, wobble, missed, low, scores] = row;
@@ -98,6 +103,7 @@ pub struct Scene {
     /// The tracks that the starting table holds.
     pub held: usize,
     pub settings: Settings,
+    pub labelling: Labelling,
     cast: Cast,
     /// A random number for each actor, the same in all frames.
     actors: [u64; 256],
@@ -105,12 +111,22 @@ pub struct Scene {
     r: u64,
 }
 
+/// The labels of a scene's boxes: 1 everywhere; by actors; by actors, and another every five frames.
+#[derive(Clone, Copy)]
+pub enum Labelling {
+    Same,
+    Actors,
+    Turning,
+}
+
 fn kind_of(s: usize) -> usize {
     match s {
         0..LARGE => s % 12,
         72 | 73 => GRID,
         74..78 => THRONG,
-        _ => FADE,
+        78 | 79 => FADE,
+        80..83 => NURSE,
+        _ => WARD,
     }
 }
 
@@ -119,7 +135,9 @@ fn frames_of(s: usize) -> usize {
         0..LARGE => 20 + s * 7 % 41,
         72 => 10,
         73..78 => 20,
-        _ => 60,
+        78 | 79 => 60,
+        80..83 => 72,
+        _ => 40,
     }
 }
 
@@ -156,10 +174,24 @@ fn large_settings(s: usize) -> Settings {
     }
 }
 
+/// From the threshold of 0 down an unlike cost of 0 is not below the threshold, and an unlike IoU of 0 is at least it.
+fn labelled_settings(s: usize) -> Settings {
+    let k = s - LABELLED;
+    Settings {
+        det_thresh: 0.6,
+        iou_threshold: [0.3, 0.3, 0.3, 0.1, 0.0, -0.5][k],
+        lambdas: [0.5, 0.25, 0.25],
+        dlo_boost_coef: 0.65,
+        max_age: [30, 8, 3, 8, 3, 8][k],
+        min_hits: [3, 0, 1, 3, 0, 1][k],
+        flags: [3, 31, 31, 7, 31, 35][k],
+    }
+}
+
 /// Even rounds start with no track, odd ones with two thirds of the actors, three more than them, or twice as many.
 fn held_of(s: usize, actors: usize) -> usize {
     if s >= LARGE {
-        return 0;
+        return if s == 85 { actors } else { 0 };
     }
     match s / 12 {
         1 => actors - actors / 3,
@@ -201,7 +233,16 @@ pub fn seeded(s: usize, seed: u64) -> Scene {
         frames: frames_of(s),
         places: places_of(s, cast.actors, held),
         held,
-        settings: if s < LARGE { small_settings(s) } else { large_settings(s) },
+        settings: match s {
+            0..LARGE => small_settings(s),
+            LARGE..LABELLED => large_settings(s),
+            _ => labelled_settings(s),
+        },
+        labelling: match s {
+            0..LABELLED => Labelling::Same,
+            82 | 84 => Labelling::Turning,
+            _ => Labelling::Actors,
+        },
         cast,
         actors,
         r,
@@ -229,7 +270,8 @@ impl Scene {
             72 => [255, 1, 256, 0, 0, 254, 2, 1, 0, 0][f],
             73 => 85,
             74..78 => 60 + f * 37 % 61,
-            _ => 24,
+            78 | 79 => 24,
+            _ => self.cast.actors,
         }
     }
 
@@ -251,6 +293,8 @@ impl Scene {
             (GRID, _) => MIDDLE + i / 17 * 3840 + part(m, 1) % 64,
             (FADE, 0) => MIDDLE + i % 6 * 12800 + if fading(i, f) { part(m, 0) % 512 } else { 0 },
             (FADE, _) => MIDDLE + i / 6 * 12800,
+            (NURSE, 0) if i == 2 => MIDDLE - 6400 + f % 24 * 640 + part(m, 0) % 64,
+            (NURSE, 0) => MIDDLE + i * 2560 + part(m, 0) % 64,
             _ => {
                 let way = f * (part(a, 2 + k) % (2 * c.speed + 1));
                 MIDDLE + part(a, k) % c.field + way + part(m, k) % (c.jitter + 1) - f * c.speed
@@ -268,6 +312,7 @@ impl Scene {
             (FAR, _) if i == 0 => 4194304,
             (FAR, _) => 1920000 + part(b, k) * 32 + part(m, 2 + k) % 64,
             (GRID, 1) => 3072,
+            (NURSE, 1) => 3200 + part(m, 3) % 64,
             _ => c.size + part(b, k) % (c.sizes + 1) + part(m, 2 + k) % (c.wobble + 1),
         }
     }
@@ -298,6 +343,9 @@ impl Scene {
         let seen = match self.kind {
             GAPS => f % 24 < 10,
             FADE => f % period(i) < 2 || fading(i, f),
+            // the sleeper is not seen while the nurse is over them
+            NURSE if i == 0 => !(8..13).contains(&(f % 24)),
+            NURSE if i == 2 => f % 24 < 20,
             _ => true,
         };
         let missed = self.cast.missed > 0 && part(n, 1) % self.cast.missed == 0;
@@ -313,9 +361,18 @@ impl Scene {
         }
     }
 
+    fn label(&self, i: u64, f: u64) -> u8 {
+        let turn = match self.labelling {
+            Labelling::Same => return 1,
+            Labelling::Actors => i,
+            Labelling::Turning => i + f / 5,
+        };
+        1 + (turn % 3) as u8
+    }
+
     /// The boxes of frame f. Frames are asked for one after the other: each actor draws a number in each.
-    pub fn sound_boxes(&mut self, f: usize) -> Vec<f32> {
-        let mut boxes = Vec::new();
+    pub fn sound_boxes(&mut self, f: usize) -> Boxes {
+        let mut boxes = Boxes::default();
         for i in 0..self.cast_of(f) {
             self.r = next(self.r);
             let (m, n) = (self.r, next(self.r));
@@ -325,14 +382,14 @@ impl Scene {
             if self.present(i, f, b, n) {
                 let corner = [0, 1].map(|k| coordinate(self.place(k, i, f, a, m)));
                 let size = [0, 1].map(|k| self.length(k, i, f, b, m));
-                boxes.extend_from_slice(&[corner[0], corner[1], size[0], size[1], self.score(i, f, n)]);
+                boxes.push([corner[0], corner[1], size[0], size[1], self.score(i, f, n)], self.label(i, f));
             }
         }
         boxes
     }
 
     /// The same, with a bad box among them where the frame is to be refused for it.
-    pub fn boxes(&mut self, f: usize) -> Vec<f32> {
+    pub fn boxes(&mut self, f: usize) -> Boxes {
         let mut boxes = self.sound_boxes(f);
         self.damage(f, &mut boxes);
         boxes
@@ -355,10 +412,10 @@ impl Scene {
         std::array::from_fn(|k| if short == k + 2 && needed[k] > 0 { needed[k] - 1 } else { needed[k] + more[k] })
     }
 
-    fn damage(&self, f: usize, boxes: &mut [f32]) {
-        if self.damaged(f) == 1 && !boxes.is_empty() {
-            let (middle, field) = (boxes.len() / 5 / 2, self.number % 5);
-            boxes[middle * 5 + field] = [f32::from_bits(0x4780_0001), f32::NAN, 0.0, -1.0, 1.5][field];
+    fn damage(&self, f: usize, boxes: &mut Boxes) {
+        if self.damaged(f) == 1 && boxes.count() > 0 {
+            let (middle, field) = (boxes.count() / 2, self.number % 5);
+            boxes.values[middle * 5 + field] = [f32::from_bits(0x4780_0001), f32::NAN, 0.0, -1.0, 1.5][field];
         }
     }
 }
@@ -423,15 +480,18 @@ impl Scene {
     /// The table that the scene starts with.
     pub fn start(&mut self) -> Table {
         let s = self.number as u64;
-        let begun = s >= 12 && s < LARGE as u64;
+        let begun = s >= 12 && s < LARGE as u64 || self.held > 0;
         let frames = if begun { 10 + s } else { 0 };
         let last = if begun { 2 * self.held as u64 + s % 5 } else { 0 };
         let mut floats = vec![JUNK as f32; self.places * 24 + self.number % 24];
         let mut counters = vec![JUNK; self.places * 4 + self.number % 4];
+        // of one scene the labels are what the places go by
+        let mut labels = vec![JUNK as u8; if s == 81 { 7 } else { self.places + self.number % 3 }];
         for i in 0..self.held {
             floats[24 * i..24 * i + 24].copy_from_slice(&self.track(i));
             counters[4 * i..4 * i + 4].copy_from_slice(&self.track_counters(i, frames));
+            labels[i] = self.label((i % self.cast.actors) as u64, 0);
         }
-        Table::new(self.settings, State { count: self.held as u64, last, frames }, floats, counters)
+        Table::new(self.settings, State { count: self.held as u64, last, frames }, floats, counters, labels)
     }
 }

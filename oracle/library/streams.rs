@@ -8,9 +8,15 @@ pub struct Stream {
     pub bytes: Vec<u8>,
 }
 
-fn put(bytes: &mut Vec<u8>, frame: u32, b: &[f32]) {
+fn put_labelled(bytes: &mut Vec<u8>, frame: u32, b: &[f32], label: u8) {
     bytes.extend(frame.to_le_bytes());
     b.iter().for_each(|x| bytes.extend(x.to_le_bytes()));
+    bytes.push(label);
+}
+
+/// With label 1.
+fn put(bytes: &mut Vec<u8>, frame: u32, b: &[f32]) {
+    put_labelled(bytes, frame, b, 1);
 }
 
 /// `count` boxes of 32 by 48 in a frame, 64 apart in rows of ten; `shift` moves them to the right.
@@ -34,7 +40,7 @@ fn played(numbers: &[usize], step: u32) -> Vec<u8> {
         scene.start();
         for f in 0..scene.frames {
             frame += step;
-            scene.sound_boxes(f).chunks(5).for_each(|b| put(&mut bytes, frame, b));
+            scene.sound_boxes(f).each().for_each(|(b, label)| put_labelled(&mut bytes, frame, &b, label));
         }
     }
     bytes
@@ -146,7 +152,54 @@ fn ordered() -> Vec<(&'static str, Vec<u8>)> {
     ]
 }
 
+/// A sleeper, and a partner over them from the fourth frame on, who alone is seen from the seventh to the ninth.
+fn partner() -> Vec<u8> {
+    made(|b| {
+        for frame in 1..16 {
+            if !(7..10).contains(&frame) {
+                put_labelled(b, frame, &[10.0, 20.0, 64.0, 32.0, 0.875], 1);
+            }
+            if frame > 3 {
+                put_labelled(b, frame, &[14.0, 20.0, 64.0, 32.0, 0.75], 2);
+            }
+        }
+    })
+}
+
+/// Labels, and 20 at a first, a middle and the last place, behind 15, 16, 41 and 42.
+fn labelled() -> Vec<(&'static str, Vec<u8>)> {
+    let none = |b: &mut Vec<u8>, f: u32| (0..3).for_each(|i| put_labelled(b, f, &GOOD, [3, 2, 0][i]));
+    let none_then = |fill: fn(&mut Vec<u8>)| {
+        made(|b| {
+            rows(b, 1..4, 3);
+            none(b, 4);
+            fill(b);
+        })
+    };
+    vec![
+        ("nurse", played(&[80, 82], 1)),
+        ("ward", played(&[83], 1)),
+        ("partner", partner()),
+        ("20_first", among(0, none)),
+        ("20_second", made(|b| {
+            put(b, 1, &GOOD);
+            none(b, 2);
+        })),
+        ("20_middle", among(4, none)),
+        ("20_last", among(9, none)),
+        ("20_of_4", among(4, |b, f| put_labelled(b, f, &GOOD, 4))),
+        ("20_of_255", among(4, |b, f| put_labelled(b, f, &GOOD, 255))),
+        ("16_and_20", none_then(|b| put(b, 4, &BAD))),
+        ("15_and_20", none_then(|b| row(b, 4, 61, 0))),
+        ("20_then_41", none_then(|b| b.extend([1; 24]))),
+        ("20_then_42", none_then(|b| put(b, 3, &GOOD))),
+        ("20_then_good", none_then(|b| put(b, 900, &GOOD))),
+        // a record of the bytes before labels
+        ("41_of_24", vec![1; 24]),
+    ]
+}
+
 pub fn all() -> Vec<Stream> {
-    let list = [accepted(), refused(), ordered()].concat();
+    let list = [accepted(), refused(), ordered(), labelled()].concat();
     list.into_iter().map(|(name, bytes)| Stream { name, bytes }).collect()
 }

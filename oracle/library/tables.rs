@@ -1,6 +1,7 @@
 //! Arbitrary sound tables, settings and boxes about the tracks that a table holds: overlaps, scores and distances at
-//! their thresholds, equal boxes, predicted variances at or below zero; and ways to spoil a call.
+//! their thresholds, equal boxes, predicted variances at or below zero, labels; and ways to spoil a call.
 
+use crate::boxes::Boxes;
 use crate::frame::Table;
 use crate::input::Input;
 use crate::random::Random;
@@ -44,6 +45,13 @@ pub struct Manner {
     shifts: u64,
     /// Of scores: even, floats about det_thresh, hundred thousandths about it, quarters of it.
     scores: u64,
+    /// Of labels: 1 everywhere, a box's mostly that of its track, any.
+    labels: u64,
+}
+
+/// A label, none where one is spoiled.
+fn label(random: &Random) -> u8 {
+    1 + random.below(3) as u8
 }
 
 impl Manner {
@@ -54,7 +62,12 @@ impl Manner {
             covariances: if random.one_in(100) { 4 + random.below(2) } else { random.below(4) },
             shifts: random.below(5),
             scores: random.below(4),
+            labels: random.pick(&[0, 0, 1, 2]),
         }
+    }
+
+    fn label(&self, random: &Random) -> u8 {
+        if self.labels == 0 { 1 } else { label(random) }
     }
 
     // ---- tables
@@ -107,6 +120,8 @@ impl Manner {
         let held = if random.one_in(40) { places - random.index(2) } else { random.index(few.min(places) + 1) };
         let mut floats = vec![7.0; 24 * places + random.index(24)];
         let mut counters = vec![7; 4 * places + random.index(4)];
+        let few_labels = held + random.index(places - held + 1);
+        let mut labels = vec![7; if random.one_in(8) { few_labels } else { places + random.index(3) }];
         let mut id = 0;
         for i in 0..held {
             floats[24 * i..24 * i + 24].copy_from_slice(&self.track(i, random));
@@ -115,9 +130,10 @@ impl Manner {
             let age = random.pick(&[0, 3, 6, 7, 100]);
             let counts = [since, random.below(8), age].map(|k| k.min(frames));
             counters[4 * i..4 * i + 4].copy_from_slice(&[&[id], &counts[..]].concat());
+            labels[i] = self.label(random);
         }
         let state = State { count: held as u64, last: (id + random.below(3)).min(255 * frames), frames };
-        Table::new(self.settings, state, floats, counters)
+        Table::new(self.settings, state, floats, counters, labels)
     }
 
     // ---- boxes
@@ -173,39 +189,48 @@ impl Manner {
         (0..count).map(|_| step()).collect()
     }
 
+    /// The label of a box about a track.
+    fn label_near(&self, table: &Table, i: usize, random: &Random) -> u8 {
+        if self.labels == 1 && !random.one_in(4) { table.labels[i] } else { self.label(random) }
+    }
+
     /// A box about a track, or where none is; now and then the one before it again, with another score.
-    fn near_track(&self, table: &Table, before: Option<[f32; 5]>, random: &Random) -> [f32; 5] {
+    fn near_track(&self, table: &Table, before: Option<([f32; 5], u8)>, random: &Random) -> ([f32; 5], u8) {
         let held = table.state.count as usize;
         let score = self.score(random);
-        let [left, top, width, height] = match before {
-            Some([a, b, c, d, _]) if random.one_in(4) => [a, b, c, d],
+        let ([left, top, width, height], label) = match before {
+            Some(([a, b, c, d, _], label)) if random.one_in(4) => {
+                ([a, b, c, d], if random.one_in(2) { label } else { self.label(random) })
+            }
             _ if held > 0 && !random.one_in(8) => {
-                self.shifted(Manner::expected(table, random.index(held)), random)
+                let i = random.index(held);
+                (self.shifted(Manner::expected(table, i), random), self.label_near(table, i, random))
             }
             _ => {
                 let [x, y, h, r] = self.position(random.index(16), random);
-                [x - h * r / 2.0, y - h / 2.0, h * r, h]
+                ([x - h * r / 2.0, y - h / 2.0, h * r, h], self.label(random))
             }
         };
-        [left, top, width, height, score]
+        ([left, top, width, height, score], label)
     }
 
     /// As many as the table takes, at most.
-    pub fn boxes(&self, table: &Table, random: &Random) -> Vec<f32> {
+    pub fn boxes(&self, table: &Table, random: &Random) -> Boxes {
         let held = table.state.count as usize;
-        let places = (table.floats.len() / 24).min(table.counters.len() / 4).min(255);
-        let count = random.index((places - held).min(12) + 1);
+        let count = random.index((table.places() - held).min(12) + 1);
         let low = if random.one_in(4) { random.index(count + 1) } else { 0 };
-        let mut boxes = self.stair(low, random);
+        let mut boxes = Boxes::default();
+        self.stair(low, random).into_iter().for_each(|values| boxes.push(values, self.label(random)));
         for _ in low..count {
-            boxes.push(self.near_track(table, boxes.last().copied(), random));
+            let (values, label) = self.near_track(table, boxes.each().last(), random);
+            boxes.push(values, label);
         }
-        boxes.concat()
+        boxes
     }
 }
 
 /// A track and a box whose distance is the limit 13.2767, or a float beside it, by its x alone.
-pub fn at_limit(random: &Random) -> (Table, Vec<f32>) {
+pub fn at_limit(random: &Random) -> (Table, Boxes) {
     let mut manner = Manner::new(random);
     manner.covariances = random.below(3);
     let mut track = manner.track(0, random);
@@ -219,8 +244,11 @@ pub fn at_limit(random: &Random) -> (Table, Vec<f32>) {
     track.resize(4 * 24, 7.0);
     let mut counters = vec![1, random.below(3), 3, 10];
     counters.resize(4 * 4, 7);
-    let table = Table::new(manner.settings, State { count: 1, last: 1, frames: 20 }, track, counters);
-    (table, vec![-8.0, -16.0, 16.0, 32.0, manner.score(random)])
+    let labels = vec![manner.label(random), 7, 7, 7];
+    let table = Table::new(manner.settings, State { count: 1, last: 1, frames: 20 }, track, counters, labels);
+    let values = vec![-8.0, -16.0, 16.0, 32.0, manner.score(random)];
+    let labels = vec![manner.label_near(&table, 0, random)];
+    (table, Boxes { values, labels })
 }
 
 // ---- spoiled calls
@@ -253,19 +281,29 @@ fn spoil_settings(settings: &mut Settings, random: &Random) {
     *settings = Settings::of(&words);
 }
 
+/// A label that is none, or another, or missing with those behind it.
+fn spoil_labels(labels: &mut Vec<u8>, random: &Random) {
+    let Some(last) = labels.len().checked_sub(1) else { return };
+    let k = random.index(last + 1).min(random.index(last + 1));
+    match random.below(4) {
+        0 => labels.truncate(k),
+        1 => labels[k] = label(random),
+        _ => labels[k] = random.pick(&[0, 4, 255]),
+    }
+}
+
 /// Something about one of the refusals; a call can stay acceptable.
 pub fn spoil(input: &mut Input, random: &Random) {
-    match random.below(8) {
+    match random.below(10) {
         0 | 1 => spoil_state(input, random),
         2 => spoil_settings(&mut input.settings, random),
         3 => {
             let more = random.pick(&[1, 5, 20, 256]);
-            let one = [1.0, 2.0, 30.0, 40.0, 0.5];
-            input.boxes.extend(std::iter::repeat_n(one, more).flatten());
+            (0..more).for_each(|_| input.boxes.push([1.0, 2.0, 30.0, 40.0, 0.5], label(random)));
         }
-        4 if !input.boxes.is_empty() => {
-            let k = random.index(input.boxes.len());
-            spoil_float(&mut input.boxes[k], random);
+        4 if !input.boxes.values.is_empty() => {
+            let k = random.index(input.boxes.values.len());
+            spoil_float(&mut input.boxes.values[k], random);
         }
         5 if !input.floats.is_empty() => {
             let k = random.index(input.floats.len());
@@ -276,6 +314,8 @@ pub fn spoil(input: &mut Input, random: &Random) {
             input.floats.truncate(input.floats.len().saturating_sub(cut[0]));
             input.counters.truncate(input.counters.len().saturating_sub(cut[1]));
         }
+        7 => spoil_labels(&mut input.labels, random),
+        8 => spoil_labels(&mut input.boxes.labels, random),
         _ => {
             let k = random.index(3);
             input.lengths[k] = random.pick(&[input.lengths[k].saturating_sub(1 + random.index(3)), 0]);

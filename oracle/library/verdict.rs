@@ -1,6 +1,7 @@
-//! The scope document's refusals of a frame, 11 to 19, written from its words and tested in this order; nothing of the
-//! port's.
+//! The refusals of a frame, 11 to 19 from the scope document's words, 10 and 20 from document 02's, tested in their order;
+//! nothing of the port's.
 
+use crate::boxes::Boxes;
 use jamtrack_rs::boost_tracker::boost_tracker::inside::Settings;
 
 /// What stands beside the lent table, in the form of include/bedside.h.
@@ -18,22 +19,23 @@ pub struct Call<'a> {
     pub state: State,
     pub floats: &'a [f32],
     pub counters: &'a [u64],
-    pub boxes: &'a [f32],
+    pub labels: &'a [u8],
+    pub boxes: &'a Boxes,
     pub out: usize,
     pub work64: usize,
     pub work32: usize,
 }
 
-/// "As many tracks as its slices allow, at most 255."
-pub fn capacity(floats: &[f32], counters: &[u64]) -> usize {
-    (floats.len() / 24).min(counters.len() / 4).min(255)
+/// "As many tracks as its slices allow, at most 255"; a label is a byte a place.
+pub fn capacity(floats: &[f32], counters: &[u64], labels: &[u8]) -> usize {
+    (floats.len() / 24).min(counters.len() / 4).min(labels.len()).min(255)
 }
 
 /// "Count is at most its capacity, ids rise strictly from 1 or more, none exceeds last id, last id is at most 255 ×
 /// frame count, and every counter but id is at most frame count."
 fn sound(call: &Call) -> bool {
     let State { count, last, frames } = call.state;
-    if count > capacity(call.floats, call.counters) as u64 || last as u128 > 255 * frames as u128 {
+    if count > call.places() as u64 || last as u128 > 255 * frames as u128 {
         return false;
     }
     let mut before = 0;
@@ -44,6 +46,11 @@ fn sound(call: &Call) -> bool {
         before = track[0];
     }
     true
+}
+
+/// "A label other than 1 to 3."
+pub fn unlabelled(label: u8) -> bool {
+    !(1..=3).contains(&label)
 }
 
 /// "A float of a held track not finite, or a predicted A + R not positive and finite."
@@ -70,13 +77,23 @@ fn bad_box(b: &[f32]) -> bool {
     !(b.iter().all(|x| x.is_finite()) && sized && near && scored)
 }
 
-/// The number, 0 where the frame is accepted, and with 16 the lowest bad box.
+impl Call<'_> {
+    fn places(&self) -> usize {
+        capacity(self.floats, self.counters, self.labels)
+    }
+}
+
+/// The number, 0 where the frame is accepted, and with 16 and 20 the lowest box concerned: "10 a label other than 1 to 3
+/// of a held track, after 11 and before 12; 20 such a label in a box, with the lowest such index, after 16 and before 17".
 pub fn verdict(call: &Call) -> (u32, usize) {
-    let boxes = call.boxes.len() / 5;
+    let boxes = call.boxes.count();
     if !sound(call) {
         return (11, 0);
     }
     let held = call.state.count as usize;
+    if call.labels[..held].iter().copied().any(unlabelled) {
+        return (10, 0);
+    }
     if !call.floats.chunks_exact(24).take(held).all(workable) {
         return (12, 0);
     }
@@ -86,16 +103,19 @@ pub fn verdict(call: &Call) -> (u32, usize) {
     if boxes > 255 {
         return (14, 0);
     }
-    if held + boxes > capacity(call.floats, call.counters) {
+    if held + boxes > call.places() {
         return (15, 0);
     }
-    if let Some(index) = call.boxes.chunks_exact(5).position(bad_box) {
+    if let Some(index) = call.boxes.each().position(|(values, _)| bad_box(&values)) {
         return (16, index);
+    }
+    if let Some(index) = call.boxes.each().position(|(_, label)| unlabelled(label)) {
+        return (20, index);
     }
     if call.state.frames >= 2147483647 {
         return (17, 0);
     }
-    if call.out / 32 < held + boxes {
+    if call.out / 33 < held + boxes {
         return (18, 0);
     }
     let n = held.max(boxes);

@@ -44,32 +44,46 @@ pub fn published(file: &str) -> Vec<u8> {
     fs::read(path).expect("a published file")
 }
 
+/// A file of this workspace; where oracle/mutants changes it, the changed copy.
+fn ours(file: &str) -> Vec<u8> {
+    watch(&here(file));
+    let text = fs::read(here(file)).expect("a file of the oracle");
+    if std::env::var("MUTANT_FILE").is_ok_and(|name| name == file) {
+        return changed(&text, Path::new(&std::env::var("MUTANT_LIST").expect("the mutant's list")));
+    }
+    text
+}
+
 /// A text changed by a list: oracle/substitute says what a list is.
-pub fn substituted(text: &[u8], list: &str) -> Vec<u8> {
+fn changed(text: &[u8], list: &Path) -> Vec<u8> {
     let before = there("before");
     fs::write(&before, text).expect("a text written");
-    watch(&here(list));
     let mut substitute = Command::new(here("substitute"));
-    substitute.arg(here(list)).stdin(fs::File::open(before).expect("a text"));
+    substitute.arg(list).stdin(fs::File::open(before).expect("a text"));
     said(substitute)
+}
+
+/// A text changed by a list of this workspace.
+pub fn substituted(text: &[u8], list: &str) -> Vec<u8> {
+    put(&ours(list), list);
+    changed(text, &there(list))
 }
 
 pub fn put(text: &[u8], to: &str) {
     fs::write(there(to), text).expect("a source written");
 }
 
-/// A published file in its place, changed by a list.
-pub fn take(file: &str, list: &str) {
-    put(&substituted(&published(file), list), file);
+/// A published file in its place, changed by lists, one after the other.
+pub fn take(file: &str, lists: &[&str]) {
+    put(&lists.iter().fold(published(file), |text, list| substituted(&text, list)), file);
 }
 
 /// A published file in its place, as it is.
 pub fn take_whole(file: &str) {
-    put(&published(file), file);
+    take(file, &[]);
 }
 
 /// A file of this workspace.
 pub fn copy(file: &str, to: &str) {
-    watch(&here(file));
-    put(&fs::read(here(file)).expect("a file of the oracle"), to);
+    put(&ours(file), to);
 }

@@ -3,6 +3,6 @@
 fn main() {
     sources::take_whole("rect.rs");
     sources::take_whole("boost_tracker/kalman_filter.rs");
-    sources::take("boost_tracker/strack.rs", "strack/published.list");
+    sources::take("boost_tracker/strack.rs", &["strack/published.list"]);
     sources::copy("strack/modules.rs", "modules.rs");
 }

@@ -3,7 +3,7 @@
 //! Boxes and tracks are given by their corners x1, y1, x2, y2. A matrix is flat, row by row, with a row for each
 //! box and a cell for each track. A result may be longer than it has to be: what is not needed of it is left as
 //! it was. Zero boxes or zero tracks is accepted; every number is, a NaN too. A call is turned down, with a
-//! [`Refusal`], exactly where sides or lengths do not fit.
+//! [`Refusal`], exactly where sides or lengths do not fit, or a label is none.
 //!
 //! ```
 //! use bedside::assoc::{associate, AssociateParams, Room};
@@ -11,7 +11,7 @@
 //! let boxes = [[0.0, 0.0, 10.0, 10.0], [20.0, 0.0, 30.0, 10.0]];
 //! let tracks = [[21.0, 0.0, 31.0, 10.0], [5.0, 0.0, 15.0, 10.0], [90.0, 0.0, 95.0, 10.0]];
 //! let mut room = Room::new(2, 3);
-//! let found = associate(&boxes, &tracks, &AssociateParams::default(), None, None, &mut room)?;
+//! let found = associate(&boxes, &tracks, &AssociateParams::default(), None, None, None, &mut room)?;
 //! assert!(found.pairs().eq([(0, 1), (1, 0)]));
 //! assert!(found.unmatched_detections.is_empty());
 //! assert_eq!(found.unmatched_tracks, [2]);
@@ -32,19 +32,22 @@ pub use crate::ffi::OverlapAreas;
 pub enum Refusal {
     /// 31: more than 255 boxes or tracks.
     TooMany,
-    /// 32: a matrix or a slice of confidences has another length than the sides say.
+    /// 32: a matrix, a slice of confidences or one of labels has another length than the sides say.
     OtherSize,
     /// 33: a result is too short, or the [`Room`].
     TooShort,
+    /// 34: a label other than 1 to 3, of [`associate`].
+    NotLabelled,
 }
 
 impl Refusal {
-    /// The number of the scope document, 31 to 33.
+    /// The number of the refusal, 31 to 34.
     pub const fn number(self) -> u32 {
         match self {
             Refusal::TooMany => 31,
             Refusal::OtherSize => 32,
             Refusal::TooShort => 33,
+            Refusal::NotLabelled => 34,
         }
     }
 
@@ -53,6 +56,7 @@ impl Refusal {
             31 => Refusal::TooMany,
             32 => Refusal::OtherSize,
             33 => Refusal::TooShort,
+            34 => Refusal::NotLabelled,
             _ => unreachable!("libbedside.a is not this crate's: a pairing has no refusal {number}"),
         }
     }
@@ -64,6 +68,7 @@ impl fmt::Display for Refusal {
             Refusal::TooMany => "more than 255 boxes or tracks",
             Refusal::OtherSize => "an input is not as long as the sides say",
             Refusal::TooShort => "a result or work slice is too short",
+            Refusal::NotLabelled => "a label is other than 1 to 3",
         };
         write!(f, "refused {}: {why}", self.number())
     }
@@ -307,12 +312,42 @@ pub struct Confidences<'a> {
     pub detections: &'a [f32],
 }
 
+/// The labels of boxes and of tracks: numbers of [`Label`](crate::Label).
+#[derive(Clone, Copy, Debug, PartialEq, Eq)]
+pub struct Labels<'a> {
+    /// One for each box.
+    pub detections: &'a [u8],
+    /// One for each track.
+    pub tracks: &'a [u8],
+}
+
+impl Labels<'_> {
+    /// One label for all of so many boxes and tracks; more than 255 are turned down whatever their labels.
+    fn same(boxes: usize, tracks: usize) -> Labels<'static> {
+        const ONES: &[u8] = &[1; 255];
+        Labels { detections: &ONES[..boxes.min(255)], tracks: &ONES[..tracks.min(255)] }
+    }
+}
+
 /// Pairs boxes and tracks by overlap and, where they are given, by a matrix of Mahalanobis distances and by
-/// confidences and shape.
+/// confidences and shape. Boxes and tracks of different labels are no pair, whatever the threshold: their overlap
+/// and their cost are taken as 0. Without labels all are alike.
+///
+/// ```
+/// use bedside::assoc::{associate, AssociateParams, Labels, Room};
+///
+/// let (place, params) = ([[0.0, 0.0, 10.0, 10.0]], AssociateParams::default());
+/// let mut room = Room::new(1, 1);
+/// let labels = Labels { detections: &[3], tracks: &[1] };
+/// let found = associate(&place, &place, &params, None, None, Some(labels), &mut room)?;
+/// assert_eq!((found.unmatched_detections, found.unmatched_tracks), (&[0][..], &[0][..]));
+/// # Ok::<(), bedside::assoc::Refusal>(())
+/// ```
 pub fn associate<'a>(
     detections: &[[f32; 4]], tracks: &[[f32; 4]], params: &AssociateParams, mahalanobis: Option<&[f32]>,
-    confidences: Option<Confidences<'_>>, room: &'a mut Room,
+    confidences: Option<Confidences<'_>>, labels: Option<Labels<'_>>, room: &'a mut Room,
 ) -> Result<Assignment<'a>, Refusal> {
+    let labels = labels.unwrap_or(Labels::same(detections.len(), tracks.len()));
     let of = ffi::Association {
         params: ffi::AssociateParams {
             iou_threshold: params.iou_threshold,
@@ -327,6 +362,8 @@ pub fn associate<'a>(
         mahalanobis: mahalanobis.unwrap_or_default(),
         track_confidence: confidences.map(|c| c.tracks).unwrap_or_default(),
         detection_confidence: confidences.map(|c| c.detections).unwrap_or_default(),
+        detection_labels: labels.detections,
+        track_labels: labels.tracks,
     };
     let answer = ffi::associate(of, room.lists());
     room.answered(answer)

@@ -173,7 +173,8 @@ unsafe extern "C" {
         params: AssociateParams, boxes: usize, tracks: usize, detections: *const f32, detections_len: usize,
         corners: *const f32, corners_len: usize, mahalanobis: *const f32, mahalanobis_len: usize,
         track_confidence: *const f32, track_confidence_len: usize, detection_confidence: *const f32,
-        detection_confidence_len: usize, pair_boxes: *mut usize, pair_boxes_len: usize,
+        detection_confidence_len: usize, detection_labels: *const u8, detection_labels_len: usize,
+        track_labels: *const u8, track_labels_len: usize, pair_boxes: *mut usize, pair_boxes_len: usize,
         pair_tracks: *mut usize, pair_tracks_len: usize, unmatched_detections: *mut usize,
         unmatched_detections_len: usize, unmatched_tracks: *mut usize, unmatched_tracks_len: usize,
         work64: *mut f64, work64_len: usize, work32: *mut f32, work32_len: usize,
@@ -183,8 +184,9 @@ unsafe extern "C" {
     ) -> Settings;
     unsafe fn bedside_update(
         settings: Settings, state: State, floats: *mut f32, floats_len: usize, counters: *mut u64,
-        counters_len: usize, boxes: *const f32, boxes_len: usize, out: *mut u8, out_len: usize,
-        work64: *mut f64, work64_len: usize, work32: *mut f32, work32_len: usize,
+        counters_len: usize, labels: *mut u8, labels_len: usize, boxes: *const f32, boxes_len: usize,
+        box_labels: *const u8, box_labels_len: usize, out: *mut u8, out_len: usize, work64: *mut f64,
+        work64_len: usize, work32: *mut f32, work32_len: usize,
     ) -> UpdateAnswer;
 }
 
@@ -335,11 +337,14 @@ pub struct Association<'a> {
     pub mahalanobis: &'a [f32],
     pub track_confidence: &'a [f32],
     pub detection_confidence: &'a [f32],
+    pub detection_labels: &'a [u8],
+    pub track_labels: &'a [u8],
 }
 
 pub fn associate(of: Association<'_>, lists: Lists<'_>) -> Assignment {
     let (d, t) = (of.sides.detections.as_flattened(), of.sides.tracks.as_flattened());
     let (m, c, e) = (of.mahalanobis, of.track_confidence, of.detection_confidence);
+    let (k, l) = (of.detection_labels, of.track_labels);
     let Lists { pair_boxes: p, pair_tracks: q, unmatched_detections: u, unmatched_tracks: v, .. } = lists;
     let (w, f) = (lists.work64, lists.work32);
     // SAFETY: each slice goes with its own length.
@@ -358,6 +363,10 @@ pub fn associate(of: Association<'_>, lists: Lists<'_>) -> Assignment {
             c.len(),
             e.as_ptr(),
             e.len(),
+            k.as_ptr(),
+            k.len(),
+            l.as_ptr(),
+            l.len(),
             p.as_mut_ptr(),
             p.len(),
             q.as_mut_ptr(),
@@ -378,14 +387,17 @@ pub fn associate(of: Association<'_>, lists: Lists<'_>) -> Assignment {
 pub struct Lent<'a> {
     pub floats: &'a mut [f32],
     pub counters: &'a mut [u64],
+    pub labels: &'a mut [u8],
     pub boxes: &'a [f32],
+    pub box_labels: &'a [u8],
     pub out: &'a mut [u8],
     pub work64: &'a mut [f64],
     pub work32: &'a mut [f32],
 }
 
 pub fn update(settings: Settings, state: State, lent: Lent<'_>) -> UpdateAnswer {
-    let Lent { floats: f, counters: c, boxes: b, out: o, work64: w, work32: v } = lent;
+    let Lent { floats: f, counters: c, labels: l, boxes: b, box_labels: k, .. } = lent;
+    let (o, w, v) = (lent.out, lent.work64, lent.work32);
     // SAFETY: each slice goes with its own length.
     unsafe {
         bedside_update(
@@ -395,8 +407,12 @@ pub fn update(settings: Settings, state: State, lent: Lent<'_>) -> UpdateAnswer 
             f.len(),
             c.as_mut_ptr(),
             c.len(),
+            l.as_mut_ptr(),
+            l.len(),
             b.as_ptr(),
             b.len(),
+            k.as_ptr(),
+            k.len(),
             o.as_mut_ptr(),
             o.len(),
             w.as_mut_ptr(),

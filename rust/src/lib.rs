@@ -56,7 +56,7 @@ mod tracker;
 
 pub use refusal::Refusal;
 pub use settings::Settings;
-pub use tracker::{Detection, Track, Tracker, Tracks};
+pub use tracker::{Detection, Label, Track, Tracker, Tracks};
 
 /// How long the assignment of a call took: the passes of its two outer loops that nothing else bounds. Both are
 /// 0 where boxes and tracks were paired without it.

@@ -5,11 +5,14 @@ use core::fmt;
 /// Why a frame is turned down. It then changed nothing, and the tracker can be used on.
 ///
 /// Each variant is a number of the scope document, which [`number`](Refusal::number) gives. Where several apply,
-/// the lowest is said. A [`Tracker`](crate::Tracker) keeps its table sound and has memory for every frame
-/// that fits into it, so it is not turned down with 11, 18 or 19; they are here because the library knows them.
+/// the first of 11, 10, 12 to 16, 20, 17 to 19 is said. A [`Tracker`](crate::Tracker) keeps its table sound and
+/// has memory for every frame that fits into it, so it is not turned down with 10, 11, 18 or 19; they are here
+/// because the library knows them.
 #[derive(Clone, Copy, Debug, PartialEq, Eq, Hash)]
 #[non_exhaustive]
 pub enum Refusal {
+    /// 10: a held track has a label other than 1 to 3.
+    TrackNotLabelled,
     /// 11: the table is not sound.
     TableNotSound,
     /// 12: a float of a held track is not finite, or a track cannot be corrected. A correction that is called
@@ -33,16 +36,22 @@ pub enum Refusal {
     OutputShort,
     /// 19: a work slice is too short.
     WorkShort,
+    /// 20: a box has a label other than 1 to 3.
+    BoxNotLabelled {
+        /// The lowest index of such a box.
+        index: usize,
+    },
 }
 
 impl Refusal {
-    /// The number of the scope document, 11 to 19.
+    /// The number of the refusal, 10 to 20.
     ///
     /// ```
     /// assert_eq!(bedside::Refusal::BadBox { index: 3 }.number(), 16);
     /// ```
     pub const fn number(self) -> u32 {
         match self {
+            Refusal::TrackNotLabelled => 10,
             Refusal::TableNotSound => 11,
             Refusal::TrackNotWorkable => 12,
             Refusal::SettingNotFinite => 13,
@@ -52,12 +61,14 @@ impl Refusal {
             Refusal::TooManyFrames => 17,
             Refusal::OutputShort => 18,
             Refusal::WorkShort => 19,
+            Refusal::BoxNotLabelled { .. } => 20,
         }
     }
 
     /// The refusal of a number that the library answered, which is proved to be one of these.
     pub(crate) fn of(number: u32, index: u64) -> Refusal {
         match number {
+            10 => Refusal::TrackNotLabelled,
             11 => Refusal::TableNotSound,
             12 => Refusal::TrackNotWorkable,
             13 => Refusal::SettingNotFinite,
@@ -67,6 +78,7 @@ impl Refusal {
             17 => Refusal::TooManyFrames,
             18 => Refusal::OutputShort,
             19 => Refusal::WorkShort,
+            20 => Refusal::BoxNotLabelled { index: index as usize },
             _ => unreachable!("libbedside.a is not this crate's: a frame has no refusal {number}"),
         }
     }
@@ -76,6 +88,7 @@ impl fmt::Display for Refusal {
     fn fmt(&self, f: &mut fmt::Formatter<'_>) -> fmt::Result {
         write!(f, "refused {}: ", self.number())?;
         match self {
+            Refusal::TrackNotLabelled => f.write_str("a track has a label other than 1 to 3"),
             Refusal::TableNotSound => f.write_str("the table is not sound"),
             Refusal::TrackNotWorkable => f.write_str("a track cannot be predicted and corrected"),
             Refusal::SettingNotFinite => f.write_str("a float setting is not finite"),
@@ -85,6 +98,7 @@ impl fmt::Display for Refusal {
             Refusal::TooManyFrames => f.write_str("the frame count has reached its limit"),
             Refusal::OutputShort => f.write_str("the output is shorter than held tracks and boxes need"),
             Refusal::WorkShort => f.write_str("a work slice is too short"),
+            Refusal::BoxNotLabelled { index } => write!(f, "box {index} has a label other than 1 to 3"),
         }
     }
 }
@@ -98,12 +112,14 @@ mod tests {
 
     #[test]
     fn a_number_and_its_refusal() {
-        for number in 11..=19 {
+        for number in 10..=20 {
             let refusal = Refusal::of(number, 7);
             assert_eq!(refusal.number(), number);
             assert!(refusal.to_string().starts_with(&std::format!("refused {number}: ")));
         }
         assert_eq!(Refusal::of(16, 7), Refusal::BadBox { index: 7 });
         assert!(Refusal::of(16, 7).to_string().contains("box 7 "));
+        assert_eq!(Refusal::of(20, 7), Refusal::BoxNotLabelled { index: 7 });
+        assert!(Refusal::of(20, 7).to_string().contains("box 7 "));
     }
 }

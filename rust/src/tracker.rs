@@ -10,7 +10,39 @@ use core::slice::ChunksExact;
 /// The most tracks of a table, and boxes of a frame.
 const MOST: usize = 255;
 
-/// A box that a detector found, with its score.
+/// Who a box shows and a track follows: a box and a track of different labels are never paired.
+#[derive(Clone, Copy, Debug, Default, PartialEq, Eq, Hash)]
+#[repr(u8)]
+pub enum Label {
+    /// 1
+    #[default]
+    Sleeper = 1,
+    /// 2
+    Partner = 2,
+    /// 3
+    Staff = 3,
+}
+
+impl Label {
+    /// The label of a number, which is the byte of a record; None for a number other than 1 to 3.
+    #[must_use]
+    pub const fn of(number: u8) -> Option<Label> {
+        match number {
+            1 => Some(Label::Sleeper),
+            2 => Some(Label::Partner),
+            3 => Some(Label::Staff),
+            _ => None,
+        }
+    }
+
+    /// 1 to 3.
+    #[must_use]
+    pub const fn number(self) -> u8 {
+        self as u8
+    }
+}
+
+/// A box that a detector found, with its score and its label.
 #[derive(Clone, Copy, Debug, PartialEq)]
 #[non_exhaustive]
 pub struct Detection {
@@ -24,19 +56,34 @@ pub struct Detection {
     pub height: f32,
     /// The score, 0 to 1.
     pub score: f32,
+    /// The number of its [`Label`], 1 to 3: a byte, as a record has it.
+    pub label: u8,
 }
 
 impl Detection {
-    /// A box by its left and top edge, its width, its height and its score. Values outside what the fields allow
-    /// are refused by [`Tracker::update`].
+    /// A box of a sleeper by its left and top edge, its width, its height and its score. Values outside what the
+    /// fields allow are refused by [`Tracker::update`].
     #[must_use]
     pub const fn new(left: f32, top: f32, width: f32, height: f32, score: f32) -> Detection {
-        Detection { left, top, width, height, score }
+        Detection { left, top, width, height, score, label: Label::Sleeper.number() }
+    }
+
+    /// The same box with this label.
+    ///
+    /// ```
+    /// use bedside::{Detection, Label};
+    ///
+    /// let nurse = Detection::new(10.0, 20.0, 32.0, 64.0, 0.75).labelled(Label::Staff);
+    /// assert_eq!(nurse.label, 3);
+    /// ```
+    #[must_use]
+    pub const fn labelled(self, label: Label) -> Detection {
+        Detection { label: label.number(), ..self }
     }
 }
 
 /// A track that a frame puts out. It is printed as the program `trackbox` prints it: frame and id in decimal,
-/// then the bits of the five floats.
+/// then the bits of the five floats, and no label.
 #[derive(Clone, Copy, Debug, PartialEq)]
 #[non_exhaustive]
 pub struct Track {
@@ -55,11 +102,13 @@ pub struct Track {
     /// The confidence, which grows with the track's age and can be above 1: 1.11 just after a match, or with
     /// [`with_cap_confidence`](Settings::with_cap_confidence) 1 then.
     pub confidence: f32,
+    /// The label, which is that of the box that started the track.
+    pub label: Label,
 }
 
 impl Track {
     /// The bytes of a track record.
-    pub const RECORD_LEN: usize = 32;
+    pub const RECORD_LEN: usize = 33;
 
     /// Of a record of these many bytes.
     fn read(record: &[u8]) -> Track {
@@ -74,6 +123,7 @@ impl Track {
             width: float(20),
             height: float(24),
             confidence: float(28),
+            label: Label::of(record[32]).expect("a frame is turned down for any other label"),
         }
     }
 }
@@ -102,7 +152,7 @@ impl<'a> Tracks<'a> {
     }
 
     /// All of the frame's track records as they stand in a file, [`Track::RECORD_LEN`] bytes each, little-endian:
-    /// frame (4 bytes), id (8), then left, top, width, height and confidence (4 each).
+    /// frame (4 bytes), id (8), left, top, width, height and confidence (4 each), label (1).
     #[must_use]
     pub fn records(&self) -> &'a [u8] {
         self.records
@@ -136,7 +186,9 @@ impl FusedIterator for Tracks<'_> {}
 struct Memory {
     floats: Box<[f32]>,
     counters: Box<[u64]>,
+    labels: Box<[u8]>,
     boxes: Box<[f32]>,
+    box_labels: Box<[u8]>,
     out: Box<[u8]>,
     work64: Box<[f64]>,
     work32: Box<[f32]>,
@@ -149,7 +201,9 @@ impl Memory {
         Memory {
             floats: vec![0.0; 24 * places].into_boxed_slice(),
             counters: vec![0; 4 * places].into_boxed_slice(),
+            labels: vec![0; places].into_boxed_slice(),
             boxes: vec![0.0; 5 * (MOST + 1)].into_boxed_slice(),
+            box_labels: vec![0; MOST + 1].into_boxed_slice(),
             out: vec![0; Track::RECORD_LEN * places].into_boxed_slice(),
             work64: vec![0.0; places * places].into_boxed_slice(),
             work32: vec![0.0; 4 * places * places].into_boxed_slice(),
@@ -163,14 +217,19 @@ impl Memory {
     /// Takes the boxes, and lends what a frame with so many held tracks needs: work memory that is lent is
     /// cleared, which takes longer than a small frame. Of more than 255 boxes, 256 are enough to be refused.
     fn lend(&mut self, held: usize, boxes: &[Detection]) -> ffi::Lent<'_> {
-        for (place, b) in self.boxes.chunks_exact_mut(5).zip(boxes) {
+        let places = self.boxes.chunks_exact_mut(5).zip(&mut self.box_labels);
+        for ((place, label), b) in places.zip(boxes) {
             place.copy_from_slice(&[b.left, b.top, b.width, b.height, b.score]);
+            *label = b.label;
         }
         let side = held.max(boxes.len()).min(self.places());
+        let given = boxes.len().min(MOST + 1);
         ffi::Lent {
             floats: &mut self.floats,
             counters: &mut self.counters,
-            boxes: &self.boxes[..5 * boxes.len().min(MOST + 1)],
+            labels: &mut self.labels,
+            boxes: &self.boxes[..5 * given],
+            box_labels: &self.box_labels[..given],
             out: &mut self.out,
             work64: &mut self.work64[..side * side],
             work32: &mut self.work32[..4 * side * side],
@@ -221,7 +280,7 @@ impl Tracker {
     }
 
     /// Works the next frame, with these boxes, and gives the tracks that it puts out. A frame without a box is a
-    /// frame too: call it with an empty slice. It takes 37 KiB of stack, and allocates nothing.
+    /// frame too: call it with an empty slice. It takes 38 KiB of stack, and allocates nothing.
     ///
     /// # Errors
     ///
@@ -326,6 +385,22 @@ mod tests {
     }
 
     #[test]
+    fn a_track_whose_label_is_none() {
+        for label in [0, 4, 255] {
+            let refusal = refusal_after(|t| t.memory.labels[0] = label);
+            assert_eq!(refusal, Some(Refusal::TrackNotLabelled));
+        }
+        // 11 is said before 10, and 10 before 12
+        let both = |t: &mut Tracker| (t.memory.labels[0], t.memory.counters[0]) = (0, 0);
+        assert_eq!(refusal_after(both), Some(Refusal::TableNotSound));
+        let both = |t: &mut Tracker| (t.memory.labels[0], t.memory.floats[0]) = (0, f32::NAN);
+        assert_eq!(refusal_after(both), Some(Refusal::TrackNotLabelled));
+        // places are as many as there are labels
+        assert_eq!(refusal_after(|t| t.memory.labels = Box::new([])), Some(Refusal::TableNotSound));
+        assert_eq!(refusal_after(|t| t.memory.labels = Box::new([1])), Some(Refusal::TableFull));
+    }
+
+    #[test]
     fn a_track_that_is_not_workable() {
         assert_eq!(refusal_after(|t| t.memory.floats[0] = f32::NAN), Some(Refusal::TrackNotWorkable));
         assert_eq!(refusal_after(|t| t.memory.floats[2] = -1e9), Some(Refusal::TrackNotWorkable));
@@ -357,5 +432,10 @@ mod tests {
     #[test]
     fn a_short_output() {
         assert_eq!(refusal_after(|t| t.memory.out = Box::new([0; 63])), Some(Refusal::OutputShort));
+        // room for a record of each held track and each box is enough
+        assert_eq!(refusal_after(|t| t.memory.out = Box::new([0; 65])), Some(Refusal::OutputShort));
+        let mut tracker = tracker();
+        tracker.memory.out = Box::new([0; 66]);
+        assert!(tracker.update(&[BOX]).is_ok());
     }
 }

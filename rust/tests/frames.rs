@@ -1,6 +1,6 @@
 //! Frames through a tracker: what is put out, and when a frame is turned down.
 
-use bedside::{Counts, Detection, Refusal, Settings, Track, Tracker};
+use bedside::{Counts, Detection, Label, Refusal, Settings, Track, Tracker};
 
 const SLEEPER: Detection = Detection::new(10.0, 20.0, 32.0, 64.0, 0.75);
 
@@ -27,6 +27,59 @@ fn the_scope_documents_example() {
     let place = [out[0].left, out[0].top, out[0].width, out[0].height];
     assert_eq!(place, [10.0, 20.0, 32.0, 64.0]);
     assert_eq!(out[0].confidence.to_bits(), 0x3ef4e351);
+    assert_eq!(out[0].label, Label::Sleeper);
+}
+
+/// Box k has label k mod 3 + 1.
+fn labelled_row(count: usize) -> Vec<Detection> {
+    let label = |k: usize| Label::of((k % 3) as u8 + 1).expect("a label");
+    row(count).into_iter().enumerate().map(|(k, one)| one.labelled(label(k))).collect()
+}
+
+#[test]
+fn a_nurse_does_not_take_the_sleepers_id() {
+    let nurse = Detection::new(11.0, 20.0, 32.0, 64.0, 0.875).labelled(Label::Staff);
+    let mut tracker = Tracker::new(Settings::new(0.6, 0.3, 30, 0));
+    assert_eq!(tracks(&mut tracker, &[SLEEPER])[0].id, 1);
+    for _ in 0..5 {
+        let out = tracks(&mut tracker, &[nurse]);
+        assert_eq!(out.iter().map(|t| (t.id, t.label)).collect::<Vec<_>>(), [(2, Label::Staff)]);
+    }
+    let out = tracks(&mut tracker, &[nurse, SLEEPER]);
+    let ids: Vec<_> = out.iter().map(|t| (t.id, t.label)).collect();
+    assert_eq!(ids, [(1, Label::Sleeper), (2, Label::Staff)]);
+    // with one label they are one track
+    let mut plain = Tracker::new(Settings::new(0.6, 0.3, 30, 0));
+    tracks(&mut plain, &[SLEEPER]);
+    assert_eq!(tracks(&mut plain, &[nurse.labelled(Label::Sleeper)])[0].id, 1);
+}
+
+#[test]
+fn a_track_keeps_the_label_of_its_first_box() {
+    let mut tracker = Tracker::new(settings());
+    for _ in 0..3 {
+        let out = tracks(&mut tracker, &labelled_row(7));
+        assert_eq!(out.iter().map(|t| t.label.number()).collect::<Vec<_>>(), [1, 2, 3, 1, 2, 3, 1]);
+        assert_eq!(tracker.last_id(), 7);
+    }
+    // boxes in another order, with their labels: the same tracks
+    let turned: Vec<_> = labelled_row(7).into_iter().rev().collect();
+    let out = tracks(&mut tracker, &turned);
+    let ids: Vec<_> = out.iter().map(|t| (t.id, t.label.number())).collect();
+    assert_eq!(ids, (1..=7).zip([1, 2, 3, 1, 2, 3, 1]).collect::<Vec<_>>());
+}
+
+#[test]
+fn one_label_everywhere_is_as_another() {
+    let frames = |label: Label| {
+        let mut tracker = Tracker::new(settings());
+        let boxes = |count| row(count).into_iter().map(|one| one.labelled(label)).collect::<Vec<_>>();
+        let lines = |track: Track| track.to_string();
+        [2, 3, 0, 5, 1, 4]
+            .map(|count| tracker.update(&boxes(count)).expect("accepted").map(lines).collect::<Vec<_>>())
+    };
+    assert_eq!(frames(Label::Sleeper), frames(Label::Partner));
+    assert_eq!(frames(Label::Sleeper), frames(Label::Staff));
 }
 
 #[test]
@@ -68,6 +121,7 @@ fn tracks_are_an_exact_iterator_over_records() {
     let mut out = tracker.update(&row(3)).expect("an accepted frame");
     assert_eq!(out.records().len(), 3 * Track::RECORD_LEN);
     assert_eq!(out.records()[..12], [1, 0, 0, 0, 1, 0, 0, 0, 0, 0, 0, 0]);
+    assert_eq!((out.records().len(), out.records()[32], out.records()[65]), (99, 1, 1));
     assert_eq!(out.counts(), Counts::default());
     assert_eq!((out.len(), out.next().map(|t| t.id), out.len()), (3, Some(1), 2));
     assert_eq!((out.next_back().map(|t| t.id), out.len()), (Some(3), 1));
@@ -195,6 +249,31 @@ fn refused_16_a_bad_box_and_its_index() {
     }
     let edge = Detection::new(-65536.0, 65536.0, 65536.0, 65536.0, 1.0);
     assert_eq!(tracks(&mut Tracker::new(settings()), &[edge]).len(), 1);
+}
+
+#[test]
+fn refused_20_a_label_that_is_none_and_its_index() {
+    for label in [0, 4, 255] {
+        let mut one = SLEEPER;
+        one.label = label;
+        assert_refused(&mut Tracker::new(settings()), &[one], Refusal::BoxNotLabelled { index: 0 });
+        let boxes = [SLEEPER, one, SLEEPER, one];
+        assert_refused(&mut Tracker::new(settings()), &boxes, Refusal::BoxNotLabelled { index: 1 });
+        // 16 of any box is said before it, and so is 15
+        let bad = Detection::new(f32::NAN, 20.0, 32.0, 64.0, 0.75);
+        assert_refused(&mut Tracker::new(settings()), &[one, SLEEPER, bad], Refusal::BadBox { index: 2 });
+        let mut small = Tracker::with_capacity(settings(), 2);
+        assert_eq!(small.update(&[one; 3]).err(), Some(Refusal::TableFull));
+    }
+}
+
+#[test]
+fn labels_and_their_numbers() {
+    let all = [Label::Sleeper, Label::Partner, Label::Staff];
+    assert_eq!(all.map(Label::number), [1, 2, 3]);
+    assert_eq!([1, 2, 3].map(Label::of), all.map(Some));
+    assert_eq!([0, 4, 255].map(Label::of), [None; 3]);
+    assert_eq!((Label::default().number(), SLEEPER.label), (1, 1));
 }
 
 #[test]

@@ -1,7 +1,7 @@
 //! The sample nights through a tracker, against the lines of the program trackbox: those that it prints, where
 //! BEDSIDE_TRACKBOX names it, and a recorded digest of them.
 
-use bedside::{Detection, Settings, Tracker};
+use bedside::{Detection, Label, Settings, Tracker};
 use std::fmt::Write;
 use std::fs::{self, File};
 use std::process::Command;
@@ -10,11 +10,12 @@ fn path(night: &str) -> String {
     format!("{}/../samples/{night}.boxes", env!("CARGO_MANIFEST_DIR"))
 }
 
-/// The frame and the box of a record of 24 bytes.
+/// The frame and the box of a record of 25 bytes.
 fn read(record: &[u8]) -> (u64, Detection) {
     let word = |k: usize| u32::from_le_bytes(record[4 * k..4 * k + 4].try_into().expect("four bytes"));
     let [left, top, width, height, score] = [1, 2, 3, 4, 5].map(|k| f32::from_bits(word(k)));
-    (u64::from(word(0)), Detection::new(left, top, width, height, score))
+    let label = Label::of(record[24]).expect("a label");
+    (u64::from(word(0)), Detection::new(left, top, width, height, score).labelled(label))
 }
 
 fn work(tracker: &mut Tracker, boxes: &mut Vec<Detection>, lines: &mut String) {
@@ -27,7 +28,7 @@ fn work(tracker: &mut Tracker, boxes: &mut Vec<Detection>, lines: &mut String) {
 fn lines(night: &str) -> String {
     let mut tracker = Tracker::new(Settings::new(0.6, 0.3, 30, 3));
     let (mut boxes, mut lines) = (Vec::new(), String::new());
-    for record in fs::read(path(night)).expect("a sample").chunks_exact(24) {
+    for record in fs::read(path(night)).expect("a sample").chunks_exact(25) {
         let (frame, detection) = read(record);
         // the open frame, then those that no record has
         while tracker.frame_count() + 1 < frame {
@@ -63,10 +64,10 @@ fn quiet() {
 
 #[test]
 fn visits() {
-    check("visits", 4534, 0x85420e1d742be589);
+    check("visits", 4539, 0x7144bbadba1b73f9);
 }
 
 #[test]
 fn crowded() {
-    check("crowded", 5469, 0x2e7c50aa46fa22ea);
+    check("crowded", 5453, 0x6212fe08005274b9);
 }

@@ -1,6 +1,6 @@
 //! The parts that a tracker is made of, on the worked examples of the scope document and on refusals.
 
-use bedside::assoc::{self, AssociateParams, Confidences, Room};
+use bedside::assoc::{self, AssociateParams, Confidences, Labels, Room};
 use bedside::filter::{self, Pair, NOISE};
 use bedside::lapjv::{self, lapjv};
 use bedside::{float, Counts, Refusal};
@@ -130,18 +130,69 @@ fn pairs() {
 fn associations() {
     let mut room = Room::new(2, 3);
     let params = AssociateParams::default();
-    let found = assoc::associate(&BOXES, &TRACKS, &params, None, None, &mut room).expect("accepted");
+    let found = assoc::associate(&BOXES, &TRACKS, &params, None, None, None, &mut room).expect("accepted");
     assert!(found.pairs().eq([(0, 1), (1, 0)]));
     assert_eq!((found.unmatched_detections, found.unmatched_tracks), (&[][..], &[2][..]));
     let strict = AssociateParams { iou_threshold: 0.5, ..params };
-    let found = assoc::associate(&BOXES, &TRACKS, &strict, None, None, &mut room).expect("accepted");
+    let found = assoc::associate(&BOXES, &TRACKS, &strict, None, None, None, &mut room).expect("accepted");
     assert!(found.pairs().eq([(1, 0)]));
     assert_eq!((found.unmatched_detections, found.unmatched_tracks), (&[0][..], &[1, 2][..]));
     let sure = Confidences { tracks: &[1.0; 3], detections: &[1.0; 2] };
     let far = [1.0; 6];
-    let found =
-        assoc::associate(&BOXES, &TRACKS, &params, Some(&far), Some(sure), &mut room).expect("accepted");
+    let found = assoc::associate(&BOXES, &TRACKS, &params, Some(&far), Some(sure), None, &mut room)
+        .expect("accepted");
     assert!(found.pairs().eq([(0, 1), (1, 0)]));
+}
+
+/// The tracks that the boxes are paired with, and what is left.
+fn labelled(
+    threshold: f32, detections: &[u8], tracks: &[u8],
+) -> (Vec<(usize, usize)>, Vec<usize>, Vec<usize>) {
+    let mut room = Room::new(2, 3);
+    let params = AssociateParams { iou_threshold: threshold, ..AssociateParams::default() };
+    let labels = Some(Labels { detections, tracks });
+    let found = assoc::associate(&BOXES, &TRACKS, &params, None, None, labels, &mut room).expect("accepted");
+    (found.pairs().collect(), found.unmatched_detections.to_vec(), found.unmatched_tracks.to_vec())
+}
+
+#[test]
+fn labels_that_differ_are_no_pair() {
+    let both = (vec![(0, 1), (1, 0)], vec![], vec![2]);
+    for label in 1..=3 {
+        assert_eq!(labelled(0.3, &[label; 2], &[label; 3]), both);
+    }
+    assert_eq!(labelled(0.3, &[1, 2], &[2, 1, 3]), both);
+    assert_eq!(labelled(0.3, &[3, 2], &[2, 1, 1]), (vec![(1, 0)], vec![0], vec![1, 2]));
+    // at no threshold: the direct path has no cost above 0, and below 0 the assignment proposes a pair for each box
+    assert_eq!(labelled(0.0, &[1, 1], &[2, 2, 3]).0, []);
+    let (pairs, boxes, tracks) = labelled(-1.0, &[1, 1], &[2, 2, 3]);
+    assert_eq!((pairs.len(), boxes, tracks.len()), (0, vec![0, 1], 3));
+    assert_eq!(labelled(f32::NEG_INFINITY, &[1, 1], &[2, 2, 3]).0, []);
+}
+
+#[test]
+fn refused_34() {
+    use assoc::Refusal::{NotLabelled, OtherSize, TooShort};
+    let params = AssociateParams::default();
+    let refusal = |boxes: &[[f32; 4]], tracks: &[[f32; 4]], labels: [&[u8]; 2], mut room: Room| {
+        let [detections, of_tracks] = labels;
+        let labels = Some(Labels { detections, tracks: of_tracks });
+        assoc::associate(boxes, tracks, &params, None, None, labels, &mut room).err()
+    };
+    let room = || Room::new(2, 3);
+    for label in [0, 4, 255] {
+        assert_eq!(refusal(&BOXES, &TRACKS, [&[1, label], &[1, 2, 3]], room()), Some(NotLabelled));
+        assert_eq!(refusal(&BOXES, &TRACKS, [&[1, 2], &[1, 2, label]], room()), Some(NotLabelled));
+        // also where the other side is 0
+        assert_eq!(refusal(&BOXES, &[], [&[label, 1], &[]], room()), Some(NotLabelled));
+        assert_eq!(refusal(&[], &TRACKS, [&[], &[1, label, 1]], room()), Some(NotLabelled));
+        // 32 and 33 are said before it
+        assert_eq!(refusal(&BOXES, &TRACKS, [&[label], &[1, 2, 3]], room()), Some(OtherSize));
+        assert_eq!(refusal(&BOXES, &TRACKS, [&[1, label], &[1; 4]], room()), Some(OtherSize));
+        assert_eq!(refusal(&BOXES, &TRACKS, [&[1, label], &[1; 3]], Room::new(2, 2)), Some(TooShort));
+    }
+    assert_eq!(NotLabelled.number(), 34);
+    assert_eq!(NotLabelled.to_string(), "refused 34: a label is other than 1 to 3");
 }
 
 #[test]
@@ -161,11 +212,14 @@ fn refused_31_to_33() {
     assert_eq!(assoc::match_detections(2, 2, &[0.5; 3], 0.3, &mut room), Err(OtherSize));
     assert_eq!(assoc::match_detections(3, 3, &[0.5; 9], 0.3, &mut room), Err(TooShort));
     assert_eq!(assoc::linear_assignment(2, 2, &[0.5; 4], &[0.5; 5], 0.3, &mut room), Err(OtherSize));
-    assert_eq!(assoc::associate(&BOXES, &TRACKS, &params, None, None, &mut room), Err(TooShort));
+    assert_eq!(assoc::associate(&BOXES, &TRACKS, &params, None, None, None, &mut room), Err(TooShort));
     let few = Some(Confidences { tracks: &[1.0; 3], detections: &[1.0] });
-    assert_eq!(assoc::associate(&BOXES, &TRACKS, &params, None, few, &mut room), Err(OtherSize));
-    assert_eq!(assoc::associate(&BOXES, &TRACKS, &params, Some(&[1.0]), None, &mut room), Err(OtherSize));
-    assert_eq!(assoc::associate(&many, &TRACKS, &params, None, None, &mut room), Err(TooMany));
+    assert_eq!(assoc::associate(&BOXES, &TRACKS, &params, None, few, None, &mut room), Err(OtherSize));
+    assert_eq!(
+        assoc::associate(&BOXES, &TRACKS, &params, Some(&[1.0]), None, None, &mut room),
+        Err(OtherSize)
+    );
+    assert_eq!(assoc::associate(&many, &TRACKS, &params, None, None, None, &mut room), Err(TooMany));
     assert_eq!([TooMany, OtherSize, TooShort].map(|r| r.number()), [31, 32, 33]);
     assert_eq!(TooMany.to_string(), "refused 31: more than 255 boxes or tracks");
 }

@@ -1,13 +1,15 @@
 -- What the contracts of the private functions cite. proofs/ shows that it comes to the definition.
 use mathlib.Core.Path.{_≡_}
 use mathlib.Core.Bool.{Bool, true, cond}
-use mathlib.Core.List.{List}
+use mathlib.Core.List.{List, []}
 use Prim.Native.Nat.{ℕ, _*_, _≤_, _<_}
 use lib.Ieee.{Float, nan}
 use lib.ListN.{take, drop}
-use Rattle.laws.specs.Grid.{cellAt}
+use Rattle.laws.specs.Grid.{cellAt, grid}
+use Rattle.labels.specs.Label.{whereAlike}
 use Rattle.floats.specs.Single.{_⊕_, _⊗_, one}
 use Rattle.assoc_boxes.specs.declared.overlap.BoundingBox.{BoundingBox}
+use Rattle.assoc_similarity.specs.Overlap.{iouBatch}
 use Rattle.assoc_similarity.specs.Shape.{shapeV1, shapeV2}
 use Rattle.assoc_similarity.specs.Mahalanobis.{mhDistSimilarity}
 use Rattle.assoc_assignment.specs.declared.assignment.AssignmentCounts.{AssignmentCounts}
@@ -27,6 +29,10 @@ pub record Cornered (boxes tracks detections corners cells : ℕ) : Type 0 where
 -- the front of a list holds the similarities of the distances, where there are any
 pub record Likened (has : Bool) (boxes tracks : ℕ) (distance cells : List Float) : Type 0 where
   pub similar : has ≡ true → (i j : ℕ) → i < boxes → j < tracks → cellAt nan tracks cells i j ≡ mhDistSimilarity distance one boxes tracks i j
+
+-- the IoU matrix as it lies in memory: a NaN, which is at least no threshold, marks a box and a track that are not alike
+abbrev pub markedIous : (ℕ → ℕ → Bool) → ℕ → ℕ → List Float → List Float → List Float
+markedIous like boxes tracks detections corners = grid (whereAlike like (iouBatch detections corners) nan) boxes tracks []
 
 -- two matrices of n cells each, one behind the other
 pub record Halves (n : ℕ) (cost iou cells : List Float) : Type 0 where

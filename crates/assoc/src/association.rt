@@ -1,16 +1,23 @@
-// associate of assoc.rs: the costs of boxes and tracks in lent memory, and the assignment by them.
+// associate of assoc.rs, with the labels of document 02, N2: the costs of boxes and tracks in lent memory, and the assignment by them.
 ghost use mathlib.Core.Path.{_≡_};
-ghost use mathlib.Core.Bool.{true};
+ghost use mathlib.Core.Bool.{true, _||_};
 ghost use Prim.Native.Nat.{_*_, _≤_};
 ghost use lib.ListN.{length, take, drop};
 ghost use lib.Ieee.{nan};
-ghost use Rattle.laws.specs.Grid.{cellAt};
+ghost use Rattle.laws.specs.Grid.{cellAt, grid};
+ghost use Rattle.labels.specs.Label.{sameLabel, alike, whereAlike};
+ghost use Rattle.labels.specs.Label as Label;
+ghost use Rattle.floats.specs.Single.{plusZero};
 ghost use Rattle.refusals.specs.declared.refusal.Verdict.the-variants.{Accepted};
+ghost use Rattle.refusals.specs.Refusal.{labelledToo};
+ghost use Rattle.assoc_similarity.specs.Sizes.{Ready};
+ghost use Rattle.assoc_similarity.specs.Overlap.{iouBatch};
 ghost use Rattle.assoc_assignment.specs.Answers.{roomWith, callWith, assignmentCall};
 ghost use Rattle.assoc_assignment.specs.Answers as Assignments;
-ghost use Rattle.assoc.specs.Association.{ious, costs};
-ghost use Rattle.assoc.specs.Answers.{lentWith, otherSize, withinVerdict, associateVerdict, cleared, associateCall, withinCall};
-ghost use Rattle.assoc.specs.Private.{Cornered, Likened, Halves, withFloats};
+ghost use Rattle.assoc.specs.Cost.{costMatrix};
+ghost use Rattle.assoc.specs.Association.{costs};
+ghost use Rattle.assoc.specs.Answers.{lentWith, otherSize, withinVerdict, associateSizes, associateVerdict, cleared, associateCall, withinCall};
+ghost use Rattle.assoc.specs.Private.{Cornered, Likened, markedIous, Halves, withFloats};
 use super::cost::AssociateParams;
 use super::cost::associate_cost;
 use assoc_assignment::AssignmentAnswer;
@@ -19,6 +26,9 @@ use assoc_assignment::linear_assignment;
 use assoc_similarity::iou_batch;
 use assoc_similarity::mh_dist_similarity;
 use assoc_similarity::mh_dist_similarity_over;
+use labels::first_unlabelled;
+use labels::label_at;
+use labels::set_unlike;
 use refusals::Refusal;
 use refusals::Verdict;
 use refusals::larger;
@@ -91,7 +101,7 @@ fn within_verdict(
     )
 }
 
-fn associate_verdict(
+fn associate_sizes(
     params: AssociateParams,
     boxes: usize,
     tracks: usize,
@@ -100,6 +110,8 @@ fn associate_verdict(
     mahalanobis: usize,
     track_confidence: usize,
     detection_confidence: usize,
+    box_labels: usize,
+    track_labels: usize,
     pairs: usize,
     partners: usize,
     unmatched_detections: usize,
@@ -107,12 +119,15 @@ fn associate_verdict(
     work64: usize,
     work32: usize,
 ) -> Verdict
-    ensures { λ r. ⌜ r ≡ associateVerdict params boxes tracks detections corners mahalanobis «track_confidence» «detection_confidence» (roomWith pairs partners «unmatched_detections» «unmatched_tracks») work64 work32 ⌝ }
+    ensures { λ r. ⌜ r ≡ associateSizes params boxes tracks detections corners mahalanobis «track_confidence» «detection_confidence» «box_labels» «track_labels» (roomWith pairs partners «unmatched_detections» «unmatched_tracks») work64 work32 ⌝ }
 {
     if (255 < boxes) | (255 < tracks) {
         return Verdict::Refused(Refusal::TooMany);
     }
     if params.has_mahalanobis & (mahalanobis != boxes * tracks) {
+        return Verdict::Refused(Refusal::OtherSize);
+    }
+    if (box_labels != boxes) | (track_labels != tracks) {
         return Verdict::Refused(Refusal::OtherSize);
     }
     within_verdict(
@@ -130,6 +145,68 @@ fn associate_verdict(
         work64,
         work32,
     )
+}
+
+fn unlabelled(labels: &[u8]) -> bool
+    ensures { λ r. ⌜ r ≡ Label.unlabelled (now (labels .entry)) (length (now (labels .entry))) ⌝ }
+{
+    let n = labels.len();
+    first_unlabelled(labels, n) < n
+}
+
+// 34, of either side, also where the other side is 0.
+fn of_labels(box_labels: &[u8], track_labels: &[u8]) -> Verdict
+    ensures { λ r. ⌜ r ≡ labelledToo Accepted (Label.unlabelled (now («box_labels» .entry)) (length (now («box_labels» .entry))) || Label.unlabelled (now («track_labels» .entry)) (length (now («track_labels» .entry)))) ⌝ }
+{
+    let bad = unlabelled(box_labels) | unlabelled(track_labels);
+    if bad {
+        return Verdict::Refused(Refusal::NotLabelled);
+    }
+    Verdict::Accepted
+}
+
+fn associate_verdict(
+    params: AssociateParams,
+    boxes: usize,
+    tracks: usize,
+    detections: usize,
+    corners: usize,
+    mahalanobis: usize,
+    track_confidence: usize,
+    detection_confidence: usize,
+    box_labels: &[u8],
+    track_labels: &[u8],
+    pairs: usize,
+    partners: usize,
+    unmatched_detections: usize,
+    unmatched_tracks: usize,
+    work64: usize,
+    work32: usize,
+) -> Verdict
+    ensures { λ r. ⌜ r ≡ associateVerdict params boxes tracks detections corners mahalanobis «track_confidence» «detection_confidence» (now («box_labels» .entry)) (now («track_labels» .entry)) (roomWith pairs partners «unmatched_detections» «unmatched_tracks») work64 work32 ⌝ }
+{
+    let sizes = associate_sizes(
+        params,
+        boxes,
+        tracks,
+        detections,
+        corners,
+        mahalanobis,
+        track_confidence,
+        detection_confidence,
+        box_labels.len(),
+        track_labels.len(),
+        pairs,
+        partners,
+        unmatched_detections,
+        unmatched_tracks,
+        work64,
+        work32,
+    );
+    if let Verdict::Refused(why) = sizes {
+        return Verdict::Refused(why);
+    }
+    of_labels(box_labels, track_labels)
 }
 
 // ---- the matrices
@@ -163,6 +240,84 @@ fn liken_within(has: bool, boxes: usize, tracks: usize, cells: &mut [f32]) -> Ve
     Verdict::Accepted
 }
 
+// Puts `value` into the cells of boxes and tracks that are not alike, row by row.
+fn set_unlike_cells(
+    boxes: usize,
+    tracks: usize,
+    box_labels: &[u8],
+    track_labels: &[u8],
+    value: f32,
+    cells: &mut [f32],
+)
+    requires { ⌜ boxes * tracks ≤ length (now cells) ⌝ }
+    ensures { λ _. ⌜ now (cells .exit) ≡ grid (whereAlike (alike sameLabel (now («box_labels» .entry)) (now («track_labels» .entry))) (cellAt nan tracks (now (cells .entry))) value) boxes tracks (now (cells .entry)) ⌝ }
+{
+    let mut at = 0;
+    let mut i = 0;
+    while i < boxes {
+        set_unlike(
+            label_at(box_labels, i),
+            track_labels,
+            value,
+            &mut cells[at..at + tracks],
+        );
+        at += tracks;
+        i += 1;
+    }
+}
+
+// The costs over the similarities in `cells`: 0 where box and track are not alike.
+fn costs(
+    params: AssociateParams,
+    boxes: usize,
+    tracks: usize,
+    detections: &[f32],
+    corners: &[f32],
+    track_confidence: &[f32],
+    detection_confidence: &[f32],
+    box_labels: &[u8],
+    track_labels: &[u8],
+    cells: &mut [f32],
+)
+    requires { ⌜ Ready boxes tracks (length (now detections)) (length (now corners)) (length (now cells)) ⌝ }
+    ensures { λ _. ⌜ now (cells .exit) ≡ grid (whereAlike (alike sameLabel (now («box_labels» .entry)) (now («track_labels» .entry)))
+        (costMatrix params (now (detections .entry)) (now (corners .entry)) (now («track_confidence» .entry)) (now («detection_confidence» .entry)) (cellAt nan tracks (now (cells .entry)))) plusZero) boxes tracks (now (cells .entry)) ⌝ }
+{
+    associate_cost(
+        params,
+        boxes,
+        tracks,
+        detections,
+        corners,
+        track_confidence,
+        detection_confidence,
+        cells,
+    );
+    set_unlike_cells(boxes, tracks, box_labels, track_labels, 0.0, cells);
+}
+
+// The IoU matrix. A NaN, which is at least no threshold, marks a box and a track that are not alike: their pair never stands.
+fn overlaps(
+    boxes: usize,
+    tracks: usize,
+    detections: &[f32],
+    corners: &[f32],
+    box_labels: &[u8],
+    track_labels: &[u8],
+    cells: &mut [f32],
+) -> Verdict
+    requires { ⌜ (boxes ≤ 255) × (tracks ≤ 255) × Ready boxes tracks (length (now detections)) (length (now corners)) (length (now cells)) ⌝ }
+    ensures answer { λ r. ⌜ r ≡ Accepted ⌝ }
+    ensures cells { λ _. ⌜ now (cells .exit) ≡ grid (whereAlike (alike sameLabel (now («box_labels» .entry)) (now («track_labels» .entry))) (iouBatch (now (detections .entry)) (now (corners .entry))) nan) boxes tracks (now (cells .entry)) ⌝ }
+{
+    let verdict = iou_batch(boxes, tracks, detections, corners, cells);
+    let Verdict::Accepted = verdict else {
+        return verdict;
+    };
+    set_unlike_cells(boxes, tracks, box_labels, track_labels, 0.0 / 0.0, cells);
+    verdict
+}
+
 // The costs over the similarities in the front of `cells`, and the IoU matrix behind them.
 fn matrices(
     params: AssociateParams,
@@ -172,16 +327,19 @@ fn matrices(
     corners: &[f32],
     track_confidence: &[f32],
     detection_confidence: &[f32],
+    box_labels: &[u8],
+    track_labels: &[u8],
     cells: &mut [f32],
 ) -> Verdict
     requires { ⌜ Cornered boxes tracks (length (now detections)) (length (now corners)) (length (now cells)) ⌝ }
     ensures answer { λ r. ⌜ r ≡ Accepted ⌝ }
-    ensures cells { λ _. ⌜ Halves (boxes * tracks) (costs params boxes tracks (now (detections .entry)) (now (corners .entry)) (now («track_confidence» .entry)) (now («detection_confidence» .entry)) (cellAt nan tracks (now (cells .entry))))
-        (ious boxes tracks (now (detections .entry)) (now (corners .entry))) (now (cells .exit)) ⌝ }
+    ensures cells { λ _. ⌜ (let like = alike sameLabel (now («box_labels» .entry)) (now («track_labels» .entry)) in
+        Halves (boxes * tracks) (costs like params boxes tracks (now (detections .entry)) (now (corners .entry)) (now («track_confidence» .entry)) (now («detection_confidence» .entry)) (cellAt nan tracks (now (cells .entry))))
+        (markedIous like boxes tracks (now (detections .entry)) (now (corners .entry))) (now (cells .exit))) ⌝ }
 {
     let half = boxes * tracks;
     let end = half + half;
-    associate_cost(
+    costs(
         params,
         boxes,
         tracks,
@@ -189,9 +347,19 @@ fn matrices(
         corners,
         track_confidence,
         detection_confidence,
+        box_labels,
+        track_labels,
         &mut cells[..half],
     );
-    iou_batch(boxes, tracks, detections, corners, &mut cells[half..end])
+    overlaps(
+        boxes,
+        tracks,
+        detections,
+        corners,
+        box_labels,
+        track_labels,
+        &mut cells[half..end],
+    )
 }
 
 // ---- the assignment
@@ -248,6 +416,8 @@ fn pair_up(
     corners: &[f32],
     track_confidence: &[f32],
     detection_confidence: &[f32],
+    box_labels: &[u8],
+    track_labels: &[u8],
     pair_boxes: &mut [usize],
     pair_tracks: &mut [usize],
     unmatched_detections: &mut [usize],
@@ -257,8 +427,9 @@ fn pair_up(
 ) -> AssignmentAnswer
     requires { ⌜ Cornered boxes tracks (length (now detections)) (length (now corners)) (length (now work32)) ⌝ }
     ensures { λ r. ⌜ (let cells = now (work32 .entry) in
-        let iou = ious boxes tracks (now (detections .entry)) (now (corners .entry)) in
-        let cost = costs params boxes tracks (now (detections .entry)) (now (corners .entry)) (now («track_confidence» .entry)) (now («detection_confidence» .entry)) (cellAt nan tracks cells) in
+        let like = alike sameLabel (now («box_labels» .entry)) (now («track_labels» .entry)) in
+        let iou = markedIous like boxes tracks (now (detections .entry)) (now (corners .entry)) in
+        let cost = costs like params boxes tracks (now (detections .entry)) (now (corners .entry)) (now («track_confidence» .entry)) (now («detection_confidence» .entry)) (cellAt nan tracks cells) in
         callWith r (lentWith (now («pair_boxes» .exit)) (now («pair_tracks» .exit)) (now («unmatched_detections» .exit)) (now («unmatched_tracks» .exit)) (now (work64 .exit)) (now (work32 .exit)))
         ≡ withFloats (cleared cells) (assignmentCall boxes tracks iou cost (params .«iou_threshold»)
         (Assignments.lentWith (now («pair_boxes» .entry)) (now («pair_tracks» .entry)) (now («unmatched_detections» .entry)) (now («unmatched_tracks» .entry)) (now (work64 .entry))))) ⌝ }
@@ -271,6 +442,8 @@ fn pair_up(
         corners,
         track_confidence,
         detection_confidence,
+        box_labels,
+        track_labels,
         work32,
     );
     if let Verdict::Refused(why) = verdict {
@@ -291,7 +464,7 @@ fn pair_up(
     answer
 }
 
-// The assignment by the costs of overlap, and of confidences, distances and shapes where there are any.
+// The assignment by the costs of overlap, and of confidences, distances and shapes where there are any. No pair joins unequal labels.
 pub fn associate(
     params: AssociateParams,
     boxes: usize,
@@ -301,6 +474,8 @@ pub fn associate(
     mahalanobis: &[f32],
     track_confidence: &[f32],
     detection_confidence: &[f32],
+    box_labels: &[u8],
+    track_labels: &[u8],
     pair_boxes: &mut [usize],
     pair_tracks: &mut [usize],
     unmatched_detections: &mut [usize],
@@ -309,7 +484,7 @@ pub fn associate(
     work32: &mut [f32],
 ) -> AssignmentAnswer
     ensures { λ r. ⌜ callWith r (lentWith (now («pair_boxes» .exit)) (now («pair_tracks» .exit)) (now («unmatched_detections» .exit)) (now («unmatched_tracks» .exit)) (now (work64 .exit)) (now (work32 .exit)))
-        ≡ associateCall params boxes tracks (now (detections .entry)) (now (corners .entry)) (now (mahalanobis .entry)) (now («track_confidence» .entry)) (now («detection_confidence» .entry))
+        ≡ associateCall params boxes tracks (now (detections .entry)) (now (corners .entry)) (now (mahalanobis .entry)) (now («track_confidence» .entry)) (now («detection_confidence» .entry)) (now («box_labels» .entry)) (now («track_labels» .entry))
         (lentWith (now («pair_boxes» .entry)) (now («pair_tracks» .entry)) (now («unmatched_detections» .entry)) (now («unmatched_tracks» .entry)) (now (work64 .entry)) (now (work32 .entry))) ⌝ }
 {
     let verdict = associate_verdict(
@@ -321,6 +496,8 @@ pub fn associate(
         mahalanobis.len(),
         track_confidence.len(),
         detection_confidence.len(),
+        box_labels,
+        track_labels,
         pair_boxes.len(),
         pair_tracks.len(),
         unmatched_detections.len(),
@@ -343,6 +520,8 @@ pub fn associate(
         corners,
         track_confidence,
         detection_confidence,
+        box_labels,
+        track_labels,
         pair_boxes,
         pair_tracks,
         unmatched_detections,
@@ -352,7 +531,7 @@ pub fn associate(
     )
 }
 
-// The same with the distances in the front of work32: for a caller that has computed them there.
+// The same with the distances in the front of work32: for a caller that has computed them there. No label is refused, and one that is missing is as 0.
 pub fn associate_within(
     params: AssociateParams,
     boxes: usize,
@@ -361,6 +540,8 @@ pub fn associate_within(
     corners: &[f32],
     track_confidence: &[f32],
     detection_confidence: &[f32],
+    box_labels: &[u8],
+    track_labels: &[u8],
     pair_boxes: &mut [usize],
     pair_tracks: &mut [usize],
     unmatched_detections: &mut [usize],
@@ -369,7 +550,7 @@ pub fn associate_within(
     work32: &mut [f32],
 ) -> AssignmentAnswer
     ensures { λ r. ⌜ callWith r (lentWith (now («pair_boxes» .exit)) (now («pair_tracks» .exit)) (now («unmatched_detections» .exit)) (now («unmatched_tracks» .exit)) (now (work64 .exit)) (now (work32 .exit)))
-        ≡ withinCall params boxes tracks (now (detections .entry)) (now (corners .entry)) (now («track_confidence» .entry)) (now («detection_confidence» .entry))
+        ≡ withinCall params boxes tracks (now (detections .entry)) (now (corners .entry)) (now («track_confidence» .entry)) (now («detection_confidence» .entry)) (now («box_labels» .entry)) (now («track_labels» .entry))
         (lentWith (now («pair_boxes» .entry)) (now («pair_tracks» .entry)) (now («unmatched_detections» .entry)) (now («unmatched_tracks» .entry)) (now (work64 .entry)) (now (work32 .entry))) ⌝ }
 {
     let verdict = within_verdict(
@@ -402,6 +583,8 @@ pub fn associate_within(
         corners,
         track_confidence,
         detection_confidence,
+        box_labels,
+        track_labels,
         pair_boxes,
         pair_tracks,
         unmatched_detections,

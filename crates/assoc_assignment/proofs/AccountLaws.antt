@@ -6,17 +6,17 @@ use Prim.Native.Nat.{ℕ, _+_, _≤_, _<_}
 use native.Mathlib.Omega.{arith}
 use lib.Dec.{ltb, eqb}
 use lib.Ieee.{Float}
-use lib.ListN.{length, length-append, length-map}
+use lib.ListN.{length, length-append, length-map, getD, List·getD-map}
 use borrow.Author.Tests.{ltb-true, ltb-false, eqb-true}
 use Rattle.laws.specs.Tab.{tab, indices}
-use Rattle.laws.specs.Sieve.{sieve, sieve-all, sieve-at}
+use Rattle.laws.specs.Sieve.{sieve, sieve-all, sieve-at, sieve-agree}
 use Rattle.laws.specs.Elem.{elem, elem-occurs}
 use Rattle.laws.specs.Count.{bit, bit-le}
 use Rattle.laws.specs.Occurs.{occurs, occurs-append, occurs-indices, occurs-sieve, occurs-all}
 use Rattle.assoc_matching.specs.Matching.{Pair, pair, boxesOf, tracksOf, matched, matchDetections}
 use Rattle.assoc_matching.specs.Account.{Distinct}
 use Rattle.assoc_matching.proofs.AccountLaws.{distinct, boxes-in, tracks-in, one-to-one}
-use Rattle.assoc_assignment.specs.Assignment.{assignment, unmatched, validMatch, validated, linearAssignment}
+use Rattle.assoc_assignment.specs.Assignment.{assignment, unmatched, validated, assignedBy}
 use Rattle.assoc_assignment.specs.Account.{Accounted}
 
 -- the early returns are what the stages give of no pairs
@@ -28,23 +28,23 @@ pub no-indices : {n : ℕ} → n ≡ 0 → indices n ≡ []
 unfolding tab
 no-indices e = rw e
 
-module _ (iou cost : List Float) (n m : ℕ) (t : Float) where
+module _ (ok : Pair → Bool) (cost : List Float) (n m : ℕ) (t : Float) where
   none-matched : (eqb n 0 || eqb m 0) ≡ true → matchDetections cost n m t ≡ matched [] 0 0
   unfolding matchDetections
   none-matched e = rw e
 
-  validated-none : validated iou n m t (matched [] 0 0) ≡ assignment [] (indices n) (indices m) 0 0
+  validated-none : validated ok n m (matched [] 0 0) ≡ assignment [] (indices n) (indices m) 0 0
   unfolding sieve
   validated-none = rw (unmatched-all n, unmatched-all m, append-nil (indices n), append-nil (indices m))
 
-  pub linear-is : linearAssignment iou cost n m t ≡ validated iou n m t (matchDetections cost n m t)
-  unfolding linearAssignment
-  linear-is = by-cases (eqb n 0) refl (eqb m 0) refl
+  pub assigned-is : assignedBy ok cost n m t ≡ validated ok n m (matchDetections cost n m t)
+  unfolding assignedBy
+  assigned-is = by-cases (eqb n 0) refl (eqb m 0) refl
     where
       by-cases : (a : Bool) → eqb n 0 ≡ a → (b : Bool) → eqb m 0 ≡ b
-          → cond a (assignment [] [] (indices m) 0 0) (cond b (assignment [] (indices n) [] 0 0) (validated iou n m t (matchDetections cost n m t))) ≡ validated iou n m t (matchDetections cost n m t)
-      by-cases true e b f = sym (ap (validated iou n m t) (none-matched (rw e)) ∙ validated-none ∙ rw (no-indices (eqb-true n 0 e)))
-      by-cases false e true f = sym (ap (validated iou n m t) (none-matched (rw (e, f))) ∙ validated-none ∙ rw (no-indices (eqb-true m 0 f)))
+          → cond a (assignment [] [] (indices m) 0 0) (cond b (assignment [] (indices n) [] 0 0) (validated ok n m (matchDetections cost n m t))) ≡ validated ok n m (matchDetections cost n m t)
+      by-cases true e b f = sym (ap (validated ok n m) (none-matched (rw e)) ∙ validated-none ∙ rw (no-indices (eqb-true n 0 e)))
+      by-cases false e true f = sym (ap (validated ok n m) (none-matched (rw (e, f))) ∙ validated-none ∙ rw (no-indices (eqb-true m 0 f)))
       by-cases false e false f = refl
 
 -- kept and rejected pairs are all the pairs
@@ -87,12 +87,10 @@ part-back n xs ys h = distinct n ys (λ (b : ℕ). omega (arith, occurs-append b
 parts-many : (g : Pair → ℕ) (n : ℕ) (ps : List Pair) (ys : List ℕ) → ((b : ℕ) → occurs b (map g ps ++ ys) ≡ bit (ltb b n)) → length ps + length ys ≡ n
 parts-many g n ps ys h = ap (λ (k : ℕ). k + length ys) (sym (length-map ps g)) ∙ sym (length-append (map g ps) ys) ∙ occurs-all (map g ps ++ ys) n h
 
-module _ (iou cost : List Float) (n m : ℕ) (t : Float) (few-rows : n ≤ 255) (few-cols : m ≤ 255) where
-  validated-accounted : Accounted iou n m t (validated iou n m t (matchDetections cost n m t))
-  unfolding validMatch
+module _ (ok : Pair → Bool) (cost : List Float) (n m : ℕ) (t : Float) (few-rows : n ≤ 255) (few-cols : m ≤ 255) where
+  validated-accounted : Accounted ok n m (validated ok n m (matchDetections cost n m t))
   validated-accounted =
       let ps : List Pair = matchDetections cost n m t .matches in
-      let ok : Pair → Bool = validMatch iou m t in
       let b : (k : ℕ) → occurs k (boxesOf (sieve ok ps) ++ (unmatched (boxesOf ps) n ++ boxesOf (sieve (λ p. not (ok p)) ps))) ≡ bit (ltb k n) =
       λ (k : ℕ). each-once (λ (p : Pair). p .box) ok ps n k (boxes-in cost n m t few-rows few-cols k) in
       let c : (k : ℕ) → occurs k (tracksOf (sieve ok ps) ++ (unmatched (tracksOf ps) m ++ tracksOf (sieve (λ p. not (ok p)) ps))) ≡ bit (ltb k m) =
@@ -112,5 +110,25 @@ module _ (iou cost : List Float) (n m : ℕ) (t : Float) (few-rows : n ≤ 255) 
         scans = o .scans;
       }
 
-  pub accounted : Accounted iou n m t (linearAssignment iou cost n m t)
-  accounted = rw (linear-is iou cost n m t) validated-accounted
+  pub accounted : Accounted ok n m (assignedBy ok cost n m t)
+  accounted = rw (assigned-is ok cost n m t) validated-accounted
+
+-- tests that agree on every box and track
+module _ (ok ok′ : Pair → Bool) (cost : List Float) (n m : ℕ) (t : Float) (few-rows : n ≤ 255) (few-cols : m ≤ 255) (agree : (p : Pair) → p .box < n → p .track < m → ok p ≡ ok′ p) where
+  abbrev ps : List Pair
+  ps = matchDetections cost n m t .matches
+
+  agree-at : (k : ℕ) → k < length ps → ok (getD ps k (pair 0 0)) ≡ ok′ (getD ps k (pair 0 0))
+  agree-at k h =
+      let once = one-to-one cost n m t few-rows few-cols in
+      let box-low : getD (boxesOf ps) k 0 < n = once .boxes-once .below k (rw (length-map ps (λ (p : Pair). p .box)) h) in
+      let track-low : getD (tracksOf ps) k 0 < m = once .tracks-once .below k (rw (length-map ps (λ (p : Pair). p .track)) h) in
+      let box-is : getD (boxesOf ps) k 0 ≡ getD ps k (pair 0 0) .box = List·getD-map (λ (p : Pair). p .box) ps k (pair 0 0) in
+      let track-is : getD (tracksOf ps) k 0 ≡ getD ps k (pair 0 0) .track = List·getD-map (λ (p : Pair). p .track) ps k (pair 0 0) in
+      agree (getD ps k (pair 0 0)) (rw box-is at box-low) (rw track-is at track-low)
+
+  pub assigned-agree : assignedBy ok cost n m t ≡ assignedBy ok′ cost n m t
+  assigned-agree =
+      let kept : sieve ok ps ≡ sieve ok′ ps = sieve-agree ok ok′ ps (pair 0 0) agree-at in
+      let rejected : sieve (λ p. not (ok p)) ps ≡ sieve (λ p. not (ok′ p)) ps = sieve-agree (λ p. not (ok p)) (λ p. not (ok′ p)) ps (pair 0 0) (λ k h. ap not (agree-at k h)) in
+      assigned-is ok cost n m t ∙ rw (kept, rejected) (sym (assigned-is ok′ cost n m t))

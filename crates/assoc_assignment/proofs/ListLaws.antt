@@ -25,11 +25,11 @@ use Rattle.assoc_matching.proofs.AccountLaws.{boxes-in, tracks-in}
 use Rattle.assoc_assignment.specs.declared.assignment.Left.{Left}
 use Rattle.assoc_assignment.specs.declared.assignment.Lengths.{Lengths}
 use Rattle.assoc_assignment.specs.declared.assignment.AssignmentAnswer.the-variants.{Assigned}
-use Rattle.assoc_assignment.specs.Assignment.{Assignment, unmatched, validMatch, validated, linearAssignment}
+use Rattle.assoc_assignment.specs.Assignment.{Assignment, unmatched, validated, assignedBy}
 use Rattle.assoc_assignment.specs.Answers.{Lists, listsWith, Room, Lent, lentAfter, assignmentCounts, callWith}
 use Rattle.assoc_assignment.specs.Private.{picked, rejected, Marked, TailRoom, Tails, LeftRoom, Leaving, leavingWith, leaving, Rowed, ListRoom, Listing, listingWith, listing}
 use Rattle.assoc_assignment.proofs.MarkLaws.{unmarked}
-use Rattle.assoc_assignment.proofs.AccountLaws.{each-once, linear-is}
+use Rattle.assoc_assignment.proofs.AccountLaws.{each-once, assigned-is}
 
 pub sized-as : {k n m cells : ℕ} → k ≡ n → Sized n m cells → Sized k m cells
 sized-as e s = rw e s
@@ -139,31 +139,31 @@ left-room ok n m partner w r = left-as (w .long) (record {
     left-as e s = rw e s
 
 -- pairs and what is left, one after the other
-pub both-listed : (iou : List Float) (n m : ℕ) (t : Float) (ps : List Pair) (lists : Lists) {l k : ℕ} {pb pt boxes tracks : List ℕ} {r : Left} → l ≡ n
-    → Wrote (sieve (validMatch iou m t) ps) (lists .pairBoxes) (lists .pairTracks) k pb pt
-    → leavingWith r boxes tracks ≡ leaving (validMatch iou m t) ps l m (lists .unmatchedDetections) (lists .unmatchedTracks)
-    → listingWith (record { pairs = k; boxes = r .boxes; tracks = r .tracks }) (listsWith pb pt boxes tracks) ≡ listing (validated iou n m t (matched ps 0 0)) lists
-both-listed iou n m t ps lists {l} {k} {pb} {pt} {boxes} {tracks} {r} e o v =
-    let kept : List Pair = sieve (validMatch iou m t) ps in
-    let w : leavingWith r boxes tracks ≡ leaving (validMatch iou m t) ps n m (lists .unmatchedDetections) (lists .unmatchedTracks) = rw e at v in
+pub both-listed : (ok : Pair → Bool) (n m : ℕ) (ps : List Pair) (lists : Lists) {l k : ℕ} {pb pt boxes tracks : List ℕ} {r : Left} → l ≡ n
+    → Wrote (sieve ok ps) (lists .pairBoxes) (lists .pairTracks) k pb pt
+    → leavingWith r boxes tracks ≡ leaving ok ps l m (lists .unmatchedDetections) (lists .unmatchedTracks)
+    → listingWith (record { pairs = k; boxes = r .boxes; tracks = r .tracks }) (listsWith pb pt boxes tracks) ≡ listing (validated ok n m (matched ps 0 0)) lists
+both-listed ok n m ps lists {l} {k} {pb} {pt} {boxes} {tracks} {r} e o v =
+    let kept : List Pair = sieve ok ps in
+    let w : leavingWith r boxes tracks ≡ leaving ok ps n m (lists .unmatchedDetections) (lists .unmatchedTracks) = rw e at v in
     rw (wrote-many o, o .boxes-are .cells, o .tracks-are .cells)
     (ap (λ (x : Leaving). listingWith (record { pairs = length kept; boxes = x .many .boxes; tracks = x .many .tracks })
     (listsWith (over (boxesOf kept) (lists .pairBoxes)) (over (tracksOf kept) (lists .pairTracks)) (x .boxes) (x .tracks))) w)
 
 -- ---- the whole
 
-module _ (iou cost : List Float) (n m : ℕ) (t : Float) (few-rows : n ≤ 255) (few-cols : m ≤ 255) where
+module _ (cost : List Float) (n m : ℕ) (t : Float) (few-rows : n ≤ 255) (few-cols : m ≤ 255) where
   pub rowed : {r : Counts} {partner : List ℕ} → Partnered cost n m t r partner → length partner ≡ n → Rowed n m partner
   rowed w l =
       let e = held-matches cost n m t few-rows few-cols w in
       record { long = l; boxes-once = λ (b : ℕ). rw e (boxes-in cost n m t few-rows few-cols b); tracks-once = λ (k : ℕ). rw e (tracks-in cost n m t few-rows few-cols k) }
 
-  pub assignment-done : (l : Lent) {r : Counts} {partner : List ℕ} {lists : Lists} {work : List Float} {k : Lengths} → Partnered cost n m t r partner
-      → listingWith k lists ≡ listing (validated iou n m t (matched (held m partner) 0 0)) (l .lists) → work ≡ zeroed (l .work)
+  pub assignment-done : (ok : Pair → Bool) (l : Lent) {r : Counts} {partner : List ℕ} {lists : Lists} {work : List Float} {k : Lengths} → Partnered cost n m t r partner
+      → listingWith k lists ≡ listing (validated ok n m (matched (held m partner) 0 0)) (l .lists) → work ≡ zeroed (l .work)
       → callWith (Assigned (record { pairs = k .pairs; detections = k .boxes; tracks = k .tracks; turns = r .turns; scans = r .scans })) (record { lists = lists; work = work })
-      ≡ callWith (Assigned (assignmentCounts (linearAssignment iou cost n m t))) (lentAfter (linearAssignment iou cost n m t) l)
-  assignment-done l {r} {partner} {lists} {work} {k} w o z =
-      let a : Assignment = validated iou n m t (matchDetections cost n m t) in
+      ≡ callWith (Assigned (assignmentCounts (assignedBy ok cost n m t))) (lentAfter (assignedBy ok cost n m t) l)
+  assignment-done ok l {r} {partner} {lists} {work} {k} w o z =
+      let a : Assignment = validated ok n m (matchDetections cost n m t) in
       let q : listingWith k lists ≡ listing a (l .lists) = rw (held-matches cost n m t few-rows few-cols w) at o in
-      rw (linear-is iou cost n m t, turns-are cost n m t few-rows few-cols w, scans-are cost n m t few-rows few-cols w, z)
+      rw (assigned-is ok cost n m t, turns-are cost n m t few-rows few-cols w, scans-are cost n m t few-rows few-cols w, z)
       (ap (λ (x : Listing). callWith (Assigned (record { pairs = x .many .pairs; detections = x .many .boxes; tracks = x .many .tracks; turns = a .turns; scans = a .scans })) (record { lists = x .lists; work = zeroed (l .work) })) q)

@@ -1,19 +1,18 @@
 -- What is proved of the definition alone, for at most 255 boxes and 255 tracks and floats of any bit patterns: every box and every track is accounted for.
 use mathlib.Core.Path.{_≡_}
-use mathlib.Core.List.{List, _++_}
-use mathlib.Core.Bool.{true}
+use mathlib.Core.List.{_++_}
+use mathlib.Core.Bool.{Bool, true}
 use Prim.Native.Nat.{ℕ, _+_, _-_, _*_, _/_, _≤_, _<_, max}
 use lib.Dec.{ltb}
-use lib.Ieee.{Float, nan, le}
 use lib.ListN.{length, getD}
 use Rattle.laws.specs.Count.{bit}
 use Rattle.laws.specs.Occurs.{occurs}
-use Rattle.assoc_matching.specs.Matching.{pair, boxesOf, tracksOf}
+use Rattle.assoc_matching.specs.Matching.{Pair, pair, boxesOf, tracksOf}
 use Rattle.assoc_matching.specs.Account.{Distinct}
 use Rattle.assoc_assignment.specs.Assignment.{Assignment}
 
--- the lists of linear_assignment
-pub record Accounted (iou : List Float) (boxes tracks : ℕ) (threshold : Float) (a : Assignment) : Type 0 where
+-- the lists of an assignment whose pairs stand where they have ok: linear_assignment's, `validMatch iou tracks threshold`, are those with an IoU of at least the threshold
+pub record Accounted (ok : Pair → Bool) (boxes tracks : ℕ) (a : Assignment) : Type 0 where
   -- pairs and unmatched boxes hold each box exactly once, and nothing else; the same for tracks
   pub boxes-whole : (b : ℕ) → occurs b (boxesOf (a .matches) ++ a .unmatchedDetections) ≡ bit (ltb b boxes)
   pub tracks-whole : (t : ℕ) → occurs t (tracksOf (a .matches) ++ a .unmatchedTracks) ≡ bit (ltb t tracks)
@@ -24,8 +23,8 @@ pub record Accounted (iou : List Float) (boxes tracks : ℕ) (threshold : Float)
   pub tracks-once : Distinct tracks (tracksOf (a .matches))
   pub unmatched-boxes-once : Distinct boxes (a .unmatchedDetections)
   pub unmatched-tracks-once : Distinct tracks (a .unmatchedTracks)
-  -- every pair's IoU is at least the threshold
-  pub stands : (k : ℕ) → k < length (a .matches) → le threshold (getD iou (getD (a .matches) k (pair 0 0) .box * tracks + getD (a .matches) k (pair 0 0) .track) nan) ≡ true
+  -- every pair stands
+  pub stands : (k : ℕ) → k < length (a .matches) → ok (getD (a .matches) k (pair 0 0)) ≡ true
   -- the counts of lapjv on the larger side
   pub turns : a .turns ≤ 2 * max boxes tracks * (max boxes tracks - 1)
   pub scans : a .scans ≤ max boxes tracks * (max boxes tracks - 1) / 2

@@ -30,22 +30,27 @@ unmatched matched n = sieve (λ d. not (elem d matched)) (indices n)
 unfoldable pub validMatch : List Float → ℕ → Float → Pair → Bool
 validMatch iou numTrks threshold p = le threshold (getD iou (p .box * numTrks + p .track) nan)
 
--- from the matched_indices: each list of the unmatched is ascending, and the loop pushes the rejected pairs' indices behind it
-abbrev pub validated : List Float → ℕ → ℕ → Float → Matched → Assignment
-validated iou numDets numTrks threshold a =
+-- from the matched_indices, of which those with ok stand: each list of the unmatched is ascending, and the loop pushes the rejected pairs' indices behind it
+abbrev pub validated : (Pair → Bool) → ℕ → ℕ → Matched → Assignment
+validated ok numDets numTrks a =
     let matchedIndices = a .matches in
     let matchedDets = boxesOf matchedIndices in
     let matchedTrks = tracksOf matchedIndices in
-    let rejected = sieve (λ p. not (validMatch iou numTrks threshold p)) matchedIndices in
+    let rejected = sieve (λ p. not (ok p)) matchedIndices in
     assignment
-    (sieve (validMatch iou numTrks threshold) matchedIndices)
+    (sieve ok matchedIndices)
     (unmatched matchedDets numDets ++ boxesOf rejected)
     (unmatched matchedTrks numTrks ++ tracksOf rejected)
     (a .turns)
     (a .scans)
 
-unfoldable pub linearAssignment : List Float → List Float → ℕ → ℕ → Float → Assignment
-linearAssignment iou cost numDets numTrks threshold =
+-- by a cost matrix, where those pairs stand that have ok
+unfoldable pub assignedBy : (Pair → Bool) → List Float → ℕ → ℕ → Float → Assignment
+assignedBy ok cost numDets numTrks threshold =
     cond (eqb numDets 0) (assignment [] [] (indices numTrks) 0 0)
     (cond (eqb numTrks 0) (assignment [] (indices numDets) [] 0 0)
-    (validated iou numDets numTrks threshold (matchDetections cost numDets numTrks threshold)))
+    (validated ok numDets numTrks (matchDetections cost numDets numTrks threshold)))
+
+-- linear_assignment: those stand whose IoU is at least the threshold
+abbrev pub linearAssignment : List Float → List Float → ℕ → ℕ → Float → Assignment
+linearAssignment iou cost numDets numTrks threshold = assignedBy (validMatch iou numTrks threshold) cost numDets numTrks threshold

@@ -286,7 +286,7 @@ fn list(
     requires rows { ⌜ Rowed nrows ncols (now partner) ⌝ }
     requires room { ⌜ ListRoom nrows ncols (roomWith (length (now boxes)) (length (now tracks)) (length (now detections)) (length (now left))) ⌝ }
     ensures { λ r. ⌜ listingWith r (listsWith (now (boxes .exit)) (now (tracks .exit)) (now (detections .exit)) (now (left .exit)))
-        ≡ listing (validated (now (iou .entry)) nrows ncols threshold (matched (held ncols (now (partner .entry))) 0 0))
+        ≡ listing (validated (validMatch (now (iou .entry)) ncols threshold) nrows ncols (matched (held ncols (now (partner .entry))) 0 0))
         (listsWith (now (boxes .entry)) (now (tracks .entry)) (now (detections .entry)) (now (left .entry))) ⌝ }
 {
     let pairs = write_picked(iou, ncols, threshold, true, partner, boxes, tracks);

@@ -3,16 +3,14 @@ use mathlib.Core.Path.{_≡_, sym, ap, _∙_}
 use mathlib.Core.List.{List}
 use mathlib.Core.Bool.{false}
 use Prim.Native.Nat.{ℕ, _<_}
-use native.Mathlib.Omega.{arith}
 use lib.Ieee.{Float}
 use lib.ListN.{length}
 use Rattle.laws.specs.Tab.{tab, tab-ext}
 use Rattle.lapjv.specs.declared.Counts.{Counts}
 use Rattle.refusals.specs.declared.refusal.Refusal.{Refusal}
-use Rattle.refusals.specs.declared.refusal.Refusal.the-variants.{TooMany, OtherSize, TooShort}
 use Rattle.refusals.specs.declared.refusal.Verdict.{Verdict}
 use Rattle.refusals.specs.declared.refusal.Verdict.the-variants.{Accepted, Refused}
-use Rattle.refusals.specs.Refusal.{number}
+use Rattle.refusals.proofs.Laws.{number-some}
 use Rattle.assoc_matching.specs.declared.matching.MatchAnswer.the-variants as match-answer
 use Rattle.assoc_matching.specs.declared.matching.PartnerAnswer.{PartnerAnswer}
 use Rattle.assoc_matching.specs.declared.matching.PartnerAnswer.the-variants as partner-answer
@@ -64,12 +62,7 @@ pub partners-found : {cost : List Float} {n m : ℕ} {t : Float} {r : PartnerAns
 partners-found e w = record { counts = sym (ap partnerValues e) ∙ w .counts; partners = w .partners }
 
 pub partner-not-refused : {r : PartnerAnswer} {why : Refusal} → partnerNumber r ≡ 0 → r ≡ partner-answer.Refused why → ⊥
-partner-not-refused {r} {why} z e = none why (rw e at z)
-  where
-    none : (why : Refusal) → number why ≡ 0 → ⊥
-    none TooMany q = omega arith
-    none OtherSize q = omega arith
-    none TooShort q = omega arith
+partner-not-refused {r} {why} z e = number-some why (rw e at z)
 
 module _ (boxes tracks : ℕ) (cost : List Float) (threshold : Float) (l : MatchLent) where
   abbrev verdict : Verdict

@@ -1,14 +1,12 @@
-// Replays the calls of standard input and prints a line for each: its title, the refusal and the counts, a digest of
-// what it was given and one of every cell that it was lent. oracle/assoc/run writes both files, stdin by its own
-// rules and stdout by the published assoc.rs and lapjv.rs.
+// Replays the calls of standard input and prints a line for each: its title, the refusal and the counts, a digest of what it was given and one of
+// every cell that it was lent. oracle/assoc/run writes both files, stdin by its own rules and stdout by the published assoc.rs and lapjv.rs.
 //
-// A record is its kind and words. The kinds 0 to 7 are calls of iou_batch, soft_biou_batch, shape_similarity_v1,
-// shape_similarity_v2, mh_dist_similarity, match_detections, linear_assignment and associate. Their 25 words: n boxes in
-// two halves, m tracks, flags of associate (1 distances, 2 confidences, 4 the corrected shape), threshold or temperature,
-// three weights; where the five inputs start and end among the floats that are held; the lengths lent for a matrix, four
-// lists and both work slices. A title follows.
-// 8 holds floats, from a first place to a last: these two are its words, and the floats follow. 9 draws them
-// (vectors::cells); of its 25 words 2 to 5 are the seed in two halves, the spread and the step, and 6 to 21 the patterns.
+// A record is its kind and words. The kinds 0 to 7 are calls of iou_batch, soft_biou_batch, shape_similarity_v1, shape_similarity_v2, mh_dist_similarity,
+// match_detections, linear_assignment and associate. Their 25 words: n boxes in two halves, m tracks, flags of associate (1 distances, 2 confidences,
+// 4 the corrected shape), threshold or temperature, three weights; where the five inputs start and end among the floats that are held; the lengths lent
+// for a matrix, four lists and both work slices. Of associate two words follow, how many labels boxes and tracks have, and these, a byte each. Then a title.
+// 8 holds floats, from a first place to a last: these two are its words, and the floats follow. 9 draws them (vectors::cells); of its 25 words 2
+// to 5 are the seed in two halves, the spread and the step, and 6 to 21 the patterns.
 use assoc::AssignmentAnswer;
 use assoc::AssociateParams;
 use assoc::MatchAnswer;
@@ -91,6 +89,12 @@ fn pairs(kind: u32, w: &[u64; 25], held: &[f32]) {
     let mut tracks = [7777usize; 257];
     let mut doubles = [1.0f64; 65538];
     let mut floats = [1.0f32; 262146];
+    let mut of_boxes = [0u8; 257];
+    let mut of_tracks = [0u8; 257];
+    let mut l = [0u64; 2];
+    input::words(if kind == 7 { 2 } else { 0 }, 0, &mut l);
+    let x = input::bytes(&mut of_boxes, l[0]);
+    let y = input::bytes(&mut of_tracks, l[1]);
     let p = lent::numbers(&mut pairs, w[19]);
     let q = lent::numbers(&mut more, w[20]);
     let r = lent::numbers(&mut boxes, w[21]);
@@ -104,23 +108,23 @@ fn pairs(kind: u32, w: &[u64; 25], held: &[f32]) {
     let c = part::floats(held, w[12], w[13]);
     let d = part::floats(held, w[14], w[15]);
     let e = part::floats(held, w[16], w[17]);
-    let least = float(w[4]);
+    let given = digest::bytes(digest::bytes(inputs(w, held), x), y);
     let line = Line::titled().bar();
     let said = match kind {
-        5 => matched(line, assoc::match_detections(n, m, a, least, p, q, u)),
+        5 => matched(line, assoc::match_detections(n, m, a, float(w[4]), p, q, u)),
         6 => assigned(
             line,
-            assoc::linear_assignment(n, m, a, b, least, p, q, r, s, u),
+            assoc::linear_assignment(n, m, a, b, float(w[4]), p, q, r, s, u),
         ),
         _ => assigned(
             line,
-            assoc::associate(params(w), n, m, a, b, c, d, e, p, q, r, s, u, v),
+            assoc::associate(params(w), n, m, a, b, c, d, e, x, y, p, q, r, s, u, v),
         ),
     };
     let lists = digest::numbers(digest::numbers(digest::START, p), q);
     let all = digest::numbers(digest::numbers(lists, r), s);
     let lent = digest::floats(digest::doubles(all, u), v);
-    said.bar().digest(inputs(w, held)).digest(lent).print();
+    said.bar().digest(given).digest(lent).print();
 }
 
 // One record; false where there is none left.

@@ -1,4 +1,4 @@
--- `bedside_update_answer` of include/bedside.h: an answer of `update` as the scope document's number, with 16 the index of the box, the state and the counts.
+-- `bedside_update_answer` of include/bedside.h: an answer of `update` as the scope document's number, with 16 and 20 the index of the box, the state and the counts.
 use Rattle.boost_tracker_table.specs.Lent.{Call, callWith}
 use Rattle.boost_tracker_verdict.specs.Verdict.{answer}
 use Rattle.boost_tracker.specs.Frame.{Memory}

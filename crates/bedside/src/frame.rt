@@ -5,6 +5,7 @@ use boost_tracker::UpdateAnswer;
 ghost use mathlib.Core.Path.{_≡_};
 ghost use Rattle.boost_tracker_table.specs.Settings.{new};
 ghost use Rattle.boost_tracker_table.specs.Lent.{callWith};
+ghost use Rattle.boost_tracker_verdict.specs.Boxes.{boxesWith};
 ghost use Rattle.boost_tracker.specs.Frame.{memoryWith, updated};
 ghost use Rattle.bedside.specs.Frame.{updatedInC, callInC};
 
@@ -52,20 +53,25 @@ pub extern "C" fn bedside_update(
     state: State,
     floats: &mut [f32],
     counters: &mut [u64],
+    labels: &mut [u8],
     boxes: &[f32],
+    box_labels: &[u8],
     out: &mut [u8],
     work64: &mut [f64],
     work32: &mut [f32],
 ) -> Updated
-    ensures { λ r. ⌜ callWith r (memoryWith (now (floats .exit)) (now (counters .exit)) (now (out .exit)) (now (work64 .exit)) (now (work32 .exit)))
-        ≡ callInC (updated settings state (now (boxes .entry)) (memoryWith (now (floats .entry)) (now (counters .entry)) (now (out .entry)) (now (work64 .entry)) (now (work32 .entry)))) ⌝ }
+    ensures { λ r. ⌜ callWith r (memoryWith (now (floats .exit)) (now (counters .exit)) (now (labels .exit)) (now (out .exit)) (now (work64 .exit)) (now (work32 .exit)))
+        ≡ callInC (updated settings state (boxesWith (now (boxes .entry)) (now («box_labels» .entry)))
+        (memoryWith (now (floats .entry)) (now (counters .entry)) (now (labels .entry)) (now (out .entry)) (now (work64 .entry)) (now (work32 .entry)))) ⌝ }
 {
     of_update(boost_tracker::update(
         settings,
         state,
         floats,
         counters,
+        labels,
         boxes,
+        box_labels,
         out,
         work64,
         work32,

@@ -242,6 +242,8 @@ pub extern "C" fn bedside_associate(
     mahalanobis: &[f32],
     track_confidence: &[f32],
     detection_confidence: &[f32],
+    detection_labels: &[u8],
+    track_labels: &[u8],
     pair_boxes: &mut [usize],
     pair_tracks: &mut [usize],
     unmatched_detections: &mut [usize],
@@ -250,7 +252,7 @@ pub extern "C" fn bedside_associate(
     work32: &mut [f32],
 ) -> Assignment
     ensures { λ r. ⌜ callInC r (lentWith (now («pair_boxes» .exit)) (now («pair_tracks» .exit)) (now («unmatched_detections» .exit)) (now («unmatched_tracks» .exit)) (now (work64 .exit)) (now (work32 .exit)))
-        ≡ associateCall params boxes tracks (now (detections .entry)) (now (corners .entry)) (now (mahalanobis .entry)) (now («track_confidence» .entry)) (now («detection_confidence» .entry))
+        ≡ associateCall params boxes tracks (now (detections .entry)) (now (corners .entry)) (now (mahalanobis .entry)) (now («track_confidence» .entry)) (now («detection_confidence» .entry)) (now («detection_labels» .entry)) (now («track_labels» .entry))
         (lentWith (now («pair_boxes» .entry)) (now («pair_tracks» .entry)) (now («unmatched_detections» .entry)) (now («unmatched_tracks» .entry)) (now (work64 .entry)) (now (work32 .entry))) ⌝ }
 {
     of_assignment(assoc::associate(
@@ -262,6 +264,8 @@ pub extern "C" fn bedside_associate(
         mahalanobis,
         track_confidence,
         detection_confidence,
+        detection_labels,
+        track_labels,
         pair_boxes,
         pair_tracks,
         unmatched_detections,

@@ -15,7 +15,7 @@ use Rattle.boost_tracker.specs.Frame.{Memory}
 
 -- ---- an output without the setting, and what it is with it
 
--- the confidence of a record: frame, id and four floats stand before it
+-- the confidence of a record: four bytes behind frame, id and the four sides; the label is behind it
 abbrev pub confidencePlace : ℕ
 confidencePlace = 28
 
@@ -55,7 +55,7 @@ pub record CapOnly (r : UpdateAnswer) (m : Memory) (r′ : UpdateAnswer) (m′ :
 -- ---- an example: of three records of 1.11, 0.9 and 1.11 two are put out, and the third is what was there before
 
 abbrev ended : List ℕ → List ℕ
-ended confidence = replicate confidencePlace 5 ++ confidence
+ended confidence = replicate confidencePlace 5 ++ (confidence ++ (3 ∷ []))
 
 abbrev above : List ℕ
 above = ended (0xe4 ∷ 0x38 ∷ 0x8e ∷ 0x3f ∷ [])

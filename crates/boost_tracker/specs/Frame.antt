@@ -1,5 +1,4 @@
 -- What a call of `update` answers and leaves in lent memory: document 01, "When a call is turned down". The verdict is the table's; g is the definition's value.
-use mathlib.Core.Bool.{Bool}
 use mathlib.Core.List.{List}
 use Prim.Native.Nat.{ℕ}
 use lib.ListN.{length}
@@ -12,11 +11,12 @@ use Rattle.boost_tracker_verdict.specs.declared.refusal.Verdict.{Verdict}
 use Rattle.boost_tracker_verdict.specs.declared.refusal.Verdict.the-variants.{Accepted}
 use Rattle.boost_tracker_table.specs.declared.settings.Settings.{Settings}
 use Rattle.boost_tracker_verdict.specs.declared.sound.State.{State}
-use Rattle.boost_tracker_table.specs.Lent.{Table, tableWith, tracksIn, holding, Call, callWith}
-use Rattle.boost_tracker_table.specs.Record.{recordBytes}
+use Rattle.boost_tracker_table.specs.Lent.{Table, tableWith, tracksIn, labelsIn, holding, Call, callWith}
+use Rattle.boost_tracker_table.specs.Emission.{emittedInds, bytesAt}
+use Rattle.boost_tracker_verdict.specs.Boxes.{Boxes}
 use Rattle.boost_tracker_verdict.specs.Verdict.{verdict, whereAccepted}
 use Rattle.boost_tracker.specs.declared.frame.UpdateAnswer.{UpdateAnswer}
-use Rattle.boost_tracker_definition.specs.Update.{Stages, update, stateAfter}
+use Rattle.boost_tracker_definition.specs.Update.{Stages, update, stateAfter, labelsStarted, labelsRetained}
 
 -- ---- the answer
 
@@ -36,30 +36,34 @@ pub record Memory : Type 0 where
   pub work64 : List Float
   pub work32 : List Float
 
-abbrev pub memoryWith : List Float → List ℕ → List ℕ → List Float → List Float → Memory
-memoryWith floats counters output work64 work32 = record { table = tableWith floats counters; output = output; work64 = work64; work32 = work32 }
+abbrev pub memoryWith : List Float → List ℕ → List ℕ → List ℕ → List Float → List Float → Memory
+memoryWith floats counters labels output work64 work32 = record { table = tableWith floats counters labels; output = output; work64 = work64; work32 = work32 }
 
--- the retained tracks in the table, zero in every place beyond them; the records of the output over the front, as cap, the setting cap_confidence, has them written; and zeros in the work slices
-abbrev pub memoryAfter : Bool → Stages → Memory → Memory
-memoryAfter cap g m = record {
-  table = holding (g .retained) (m .table);
-  output = laid (recordBytes cap (g .frameCount)) trackBytes (g .output) (m .output);
+-- by the labels of all trackers after step 7: the retained ones with their labels in the table, zero in every place beyond them; the records of the output over the front, as the setting cap_confidence
+-- has them written; and zeros in the work slices
+abbrev pub memoryAfter : Settings → List ℕ → Stages → Memory → Memory
+memoryAfter s all g m = record {
+  table = holding (g .retained) (labelsRetained s all g) (m .table);
+  output = laid (bytesAt (s .«cap_confidence») (g .frameCount) (g .started .trackers) all) trackBytes (emittedInds (g .frameCount) (s .«min_hits») (g .started .trackers)) (m .output);
   work64 = zeroed (m .work64);
   work32 = cleared (m .work32);
 }
 
 -- ---- a call
 
-abbrev pub verdictOf : Settings → State → List Float → Memory → Verdict
-verdictOf s state boxes m = verdict s state (m .table .floats) (m .table .counters) boxes (length (m .output)) (length (m .work64)) (length (m .work32))
+abbrev pub verdictOf : Settings → State → Boxes → Memory → Verdict
+verdictOf s state boxes m = verdict s state (m .table) boxes (length (m .output)) (length (m .work64)) (length (m .work32))
 
--- the definition's value
-abbrev pub worked : Settings → State → List Float → Memory → Stages
-worked s state boxes m = update s state boxes (tracksIn (m .table) (state .count))
+-- the definition's value, and the labels of all trackers in it
+abbrev pub worked : Settings → State → Boxes → Memory → Stages
+worked s state boxes m = update s state boxes (tracksIn (m .table) (state .count)) (labelsIn (m .table) (state .count))
+
+abbrev pub labelsOf : State → Boxes → Memory → Stages → List ℕ
+labelsOf state boxes m g = labelsStarted (boxes .labels) (labelsIn (m .table) (state .count)) g
 
 -- a refused call changes nothing
-unfoldable pub updated : Settings → State → List Float → Memory → Call UpdateAnswer Memory
+unfoldable pub updated : Settings → State → Boxes → Memory → Call UpdateAnswer Memory
 updated s state boxes m =
     let v : Verdict = verdictOf s state boxes m in
     let g : Stages = worked s state boxes m in
-    whereAccepted v (callWith (acceptedAnswer g) (memoryAfter (s .«cap_confidence») g m)) (callWith (refusedAnswer v state) m)
+    whereAccepted v (callWith (acceptedAnswer g) (memoryAfter s (labelsOf state boxes m g) g m)) (callWith (refusedAnswer v state) m)

@@ -8,10 +8,9 @@ use Rattle.records.specs.TrackRecord.{trackBytes}
 use Rattle.boost_tracker_verdict.specs.declared.refusal.Verdict.the-variants.{Accepted}
 use Rattle.boost_tracker_table.specs.declared.settings.Settings.{Settings}
 use Rattle.boost_tracker_verdict.specs.declared.sound.State.{State}
-use Rattle.boost_tracker_table.specs.Table.{Track, retained}
-use Rattle.boost_tracker_table.specs.Lent.{Table, tableWith, tracksIn, holding, Call, callWith}
-use Rattle.boost_tracker_table.specs.Record.{recordBytes}
-use Rattle.boost_tracker_table.specs.Emission.{emitted}
+use Rattle.boost_tracker_table.specs.Table.{Track, young, retained, labelsWhere}
+use Rattle.boost_tracker_table.specs.Lent.{Table, tableWith, tracksIn, labelsIn, holding, Call, callWith}
+use Rattle.boost_tracker_table.specs.Emission.{emitted, emittedInds, bytesAt}
 use Rattle.boost_tracker_steps.specs.declared.all_steps.Advanced.{Advanced}
 use Rattle.boost_tracker.specs.declared.frame.UpdateAnswer.{UpdateAnswer}
 
@@ -29,8 +28,8 @@ pub record Ending : Type 0 where
   pub table : Table
   pub output : List ℕ
 
-abbrev pub endingWith : List Float → List ℕ → List ℕ → Ending
-endingWith floats counters output = record { table = tableWith floats counters; output = output }
+abbrev pub endingWith : List Float → List ℕ → List ℕ → List ℕ → Ending
+endingWith floats counters labels output = record { table = tableWith floats counters labels; output = output }
 
 -- the answer for so many tracks that stay and that are put out
 abbrev pub answerOf : State → Advanced → ℕ → ℕ → UpdateAnswer
@@ -40,6 +39,11 @@ answerOf state a count emitted = record { verdict = Accepted; state = record { c
 unfoldable pub finished : Settings → State → Advanced → Ending → Call UpdateAnswer Ending
 finished s state a m =
     let all : List Track = tracksIn (m .table) (state .count + a .started) in
+    let labels : List ℕ = labelsIn (m .table) (state .count + a .started) in
     let stay : List Track = retained (s .«max_age») all in
     let put : List Track = emitted (state .frames + 1) (s .«min_hits») all in
-    callWith (answerOf state a (length stay) (length put)) (record { table = holding stay (m .table); output = laid (recordBytes (s .«cap_confidence») (state .frames + 1)) trackBytes put (m .output) })
+    callWith (answerOf state a (length stay) (length put))
+    (record {
+      table = holding stay (labelsWhere (young (s .«max_age»)) all labels) (m .table);
+      output = laid (bytesAt (s .«cap_confidence») (state .frames + 1) all labels) trackBytes (emittedInds (state .frames + 1) (s .«min_hits») all) (m .output);
+    })

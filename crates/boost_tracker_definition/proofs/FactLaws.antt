@@ -7,9 +7,12 @@ use native.Mathlib.Nat.{le-trans}
 use native.Mathlib.Omega.{arith}
 use lib.Dec.{eqb, leb}
 use lib.ListN.{length, length-append, length-map, getD, List·getD-map}
+use lib.Seq.{getD-take, length-take-le}
 use lib.Ieee.{Float, nan}
 use Rattle.laws.specs.Tab.{length-tab, getD-any, indices}
-use Rattle.laws.specs.Sieve.{sieve, sieve-few}
+use Rattle.laws.specs.Sieve.{sieve-few}
+use Rattle.labels.specs.Label.{labelAt, isLabel, sameLabel, alike, whereAlike}
+use Rattle.floats.specs.Single.{plusZero}
 use Rattle.strack.specs.Strack.{predict}
 use Rattle.strack.proofs.Laws.{update-accepted}
 use Rattle.boost_tracker_dlo.specs.declared.dlo.DloSettings.{DloSettings}
@@ -18,23 +21,27 @@ use Rattle.boost_tracker_dlo.specs.Dlo.{similarity, coefficient, soft, varying,
 use Rattle.boost_tracker_duo.specs.Duo.{boostCandidates, masked, duoConfidenceBoost}
 use Rattle.assoc_matching.specs.Matching.{Pair, pair, boxesOf, tracksOf}
 use Rattle.assoc_assignment.specs.Account.{Accounted}
-use Rattle.assoc.specs.Association.{ious}
-use Rattle.assoc.proofs.Theorem.{account}
+use Rattle.assoc.specs.Association.{ious, stands}
+use Rattle.assoc.proofs.Theorem.{account, stands-alike}
 use Rattle.boost_tracker_verdict.specs.declared.refusal.Verdict.the-variants.{Accepted}
 use Rattle.boost_tracker_table.specs.declared.settings.Settings.{Settings}
 use Rattle.boost_tracker_verdict.specs.declared.sound.State.{State}
-use Rattle.boost_tracker_table.specs.Table.{Track, blank, tracks, young, retained, Emptied}
-use Rattle.boost_tracker_table.specs.Lent.{Table, tableWith, placesOf, tracksIn, holding}
-use Rattle.boost_tracker_table.proofs.Laws.{emptied-tracks, emptied-lengths}
+use Rattle.boost_tracker_table.specs.Table.{Track, blank, young, retained, Emptied}
+use Rattle.boost_tracker_table.specs.Lent.{Table, placesOf, tracksIn, labelsIn, holding}
+use Rattle.boost_tracker_table.proofs.Laws.{emptied-tracks}
+use Rattle.boost_tracker_table.proofs.LabelLaws.{held-places, held-labels}
+use Rattle.boost_tracker_table.proofs.LabelLaws as table
 use Rattle.boost_tracker_verdict.specs.Sound.{rising}
+use Rattle.boost_tracker_verdict.specs.Boxes.{Boxes}
 use Rattle.boost_tracker_verdict.specs.Verdict.{boxesIn, verdict}
 use Rattle.boost_tracker_verdict.specs.Ready.{HeldTrack, Ready}
 use Rattle.boost_tracker_verdict.proofs.ReadyLaws.{ready}
-use Rattle.boost_tracker_definition.specs.Update.{some, trackerAt, probOf, bboxes, scores, dloSettings, dlo, duo, afterDlo, afterDuo, remains, remainInds, detScores, mhDist, params, result, Started, startedFrom, Stages, steps, update}
-use Rattle.boost_tracker_definition.specs.Facts.{pairAt, correctionAt, FrameFacts}
+use Rattle.boost_tracker_definition.specs.Update.{some, trackerAt, probOf, bboxes, scores, dloSettings, dlo, duo, afterDlo, afterDuo, remains, remainInds, detScores, mhDist, params, result, Started, startedFrom, Stages, stagesFrom, steps, updateBy, update, labelsRetained}
+use Rattle.boost_tracker_definition.specs.Facts.{pairAt, correctionAt, labelsOfBoxes, labelsAll, FrameFacts}
 use Rattle.boost_tracker_definition.specs.Plain.{correctedBy, startedBy}
 use Rattle.boost_tracker_definition.proofs.PlainLaws.{all-above, matched-is, started-is}
 use Rattle.boost_tracker_definition.proofs.TrackFacts.{hit-is, hits-many, news-many, old-id, new-id-is, sound-after}
+use Rattle.boost_tracker_definition.proofs.LabelFacts.{Labelled, labels-many, old-label, new-label, all-labels, labels-where-are, none-unlabelled, remain-below}
 
 -- ---- the pairs
 
@@ -44,7 +51,7 @@ predicted-at held i h = getD-any (map predict held) i blank (predict blank) (rw 
 -- a held track is correctable once predicted, and no track is in two pairs
 pairs-corrected : (state : State) (held : List Track) → ((i : ℕ) → i < length held → HeldTrack state (trackerAt held i)) → (g : Stages) → g .predicted ≡ map predict held
     → g .matched ≡ correctedBy (g .detBboxes) (boxesOf (g .result .matches)) (tracksOf (g .result .matches)) (map predict held)
-    → {iou : List Float} {threshold : Float} → Accounted iou (length (g .detScores)) (length held) threshold (g .result)
+    → {ok : Pair → Bool} → Accounted ok (length (g .detScores)) (length held) (g .result)
     → (k : ℕ) → k < length (g .result .matches) → (correctionAt g k .0 ≡ 0) × (trackerAt (g .matched) (pairAt g k .track) ≡ correctionAt g k .1)
 pairs-corrected state held each g predicted hit acc k h =
     let ms : List Pair = g .result .matches in
@@ -64,15 +71,17 @@ pairs-corrected state held each g predicted hit acc k h =
 -- ---- the table and the ids
 
 -- what a caller learns, of any stages whose tracks are those held, corrected, and those started
-facts-of : (state : State) (held : List Track) → ((i : ℕ) → i < length held → HeldTrack state (trackerAt held i)) → rising 0 held ≡ true → state .frames < 2147483647 → state .last ≤ 255 * state .frames
-    → (g : Stages) → g .frameCount ≡ state .frames + 1 → (oldest : ℕ) → g .retained ≡ retained oldest (g .started .trackers)
-    → {iou : List Float} {threshold : Float} → Accounted iou (length (g .detScores)) (length held) threshold (g .result)
+facts-of : (self : Settings) (state : State) (boxes : Boxes) (held : List Track) (labels : List ℕ) → ((i : ℕ) → i < length held → HeldTrack state (trackerAt held i)) → rising 0 held ≡ true → state .frames < 2147483647
+    → state .last ≤ 255 * state .frames → (g : Stages) → g .frameCount ≡ state .frames + 1 → g .retained ≡ retained (self .«max_age») (g .started .trackers)
+    → {ok : Pair → Bool} → Accounted ok (length (g .detScores)) (length held) (g .result)
     → g .started ≡ startedFrom (state .last + length (g .result .unmatchedDetections))
     (correctedBy (g .detBboxes) (boxesOf (g .result .matches)) (tracksOf (g .result .matches)) (map predict held) ++ startedBy (state .last) (g .detBboxes) (g .result .unmatchedDetections))
     → g .predicted ≡ map predict held → g .matched ≡ correctedBy (g .detBboxes) (boxesOf (g .result .matches)) (tracksOf (g .result .matches)) (map predict held)
-    → length (g .result .unmatchedDetections) ≤ 255 → (t : Table) → length held + length (g .result .unmatchedDetections) ≤ placesOf t → FrameFacts state held g (holding (g .retained) t)
-facts-of state held each rises low ids g frame oldest kept {iou} {threshold} acc all predicted hit few t room =
+    → length (g .result .unmatchedDetections) ≤ 255 → Labelled boxes labels (length held) g → (t : Table) → length held + length (g .result .unmatchedDetections) ≤ placesOf t
+    → FrameFacts self state boxes held labels g (holding (g .retained) (labelsRetained self (labelsAll boxes labels g) g) t)
+facts-of self state boxes held labels each rises low ids g frame kept {ok} acc all predicted hit few named t room =
     let corners : List Float = g .detBboxes in
+    let oldest : ℕ = self .«max_age» in
     let pb : List ℕ = boxesOf (g .result .matches) in
     let pt : List ℕ = tracksOf (g .result .matches) in
     let un : List ℕ = g .result .unmatchedDetections in
@@ -84,34 +93,47 @@ facts-of state held each rises low ids g frame oldest kept {iou} {threshold} acc
     let last : g .started .trackIdCount ≡ state .last + length un = ap (λ (t : Started). t .trackIdCount) all in
     let many : length (hits ++ news) ≡ length held + length un =
     length-append hits news ∙ rw (hits-many state held each rises low corners pb pt un halves apart, news-many state held each rises low corners pb pt un halves apart) in
-    let after : Table = holding (g .retained) t in
-    let z : Emptied (t .floats) (t .counters) (g .retained) (after .floats) (after .counters) = record { floats = refl; counters = refl } in
-    let left : length (g .retained) ≤ placesOf t = rw (kept, whole) (le-trans (sieve-few (young oldest) (hits ++ news)) (rw many room)) in
-    let holds : tracksIn after (length (g .retained)) ≡ g .retained = emptied-tracks z left in
-    let lengths = emptied-lengths z left in
-    let is-sound = sound-after state held each rises low corners pb pt un halves apart (young oldest) (placesOf t) ids few (rw many room) in
+    let ls : List ℕ = labelsRetained self (labelsAll boxes labels g) g in
+    let after : Table = holding (g .retained) ls t in
+    let places : ℕ = placesOf t in
+    let z : Emptied (t .floats) (t .counters) places (g .retained) (after .floats) (after .counters) = record { floats = refl; counters = refl } in
+    let left : length (g .retained) ≤ places = rw (kept, whole) (le-trans (sieve-few (young oldest) (hits ++ news)) (rw many room)) in
+    let holds : tracksIn after (length (g .retained)) ≡ g .retained = emptied-tracks z left (omega arith) in
+    let is-sound = sound-after state held each rises low corners pb pt un halves apart (young oldest) places ids few (rw many room) in
     let pairs = pairs-corrected state held each g predicted hit acc in
+    let as-many : length ls ≡ length (g .retained) = table.labels-many (young oldest) (g .started .trackers) (labelsAll boxes labels g) ∙ sym (ap length kept) in
+    let front : labelsIn after (length (g .retained)) ≡ ls = rw as-many at (held-labels (g .retained) ls t) in
+    let same : placesOf after ≡ places = held-places (g .retained) ls t left (rw as-many left) in
+    let all-many : length (labelsAll boxes labels g) ≡ length (g .started .trackers) = labels-many boxes labels (length held) g named ∙ sym (ap length whole ∙ many) in
+    let good : (i : ℕ) → i < length ls → isLabel (labelAt ls i) ≡ true =
+    labels-where-are isLabel (young oldest) (g .started .trackers) (labelsAll boxes labels g) (λ i h. all-labels boxes labels (length held) g named (λ n. isLabel n ≡ true) (named .olds) (named .news) i (rw (whole, many) at h)) in
     record {
       holds = holds;
-      sound = rw (lengths .0, lengths .1, holds, frame, last, kept, whole) is-sound;
+      sound = rw (same, holds, frame, last, kept, whole) is-sound;
       accepted = λ i h. pairs i h .0;
       corrected = λ i h. pairs i h .1;
       many = rw whole many;
       old-ids = λ i h. rw whole (old-id state held each rises low corners pb pt un halves apart i h);
       new-ids = λ i h. rw whole (new-id-is state held each rises low corners pb pt un halves apart i h);
       last-id = last;
+      many-labels = all-many;
+      old-labels = old-label boxes labels (length held) g named;
+      new-labels = new-label boxes labels (length held) g named;
+      holds-labels = front;
+      labelled = none-unlabelled ls places (t .labels) (length (g .retained)) (sym as-many) good;
+      paired-alike = named .alike;
       turns = acc .turns;
       scans = acc .scans;
     }
 
-frame-is : (self : Settings) (state : State) (objects : List Float) (trackers : List Track) → update self state objects trackers .frameCount ≡ state .frames + 1
-unfolding update steps
-frame-is self state objects trackers = refl
+frame-is : (self : Settings) (state : State) (objects : Boxes) (trackers : List Track) (labels : List ℕ) → update self state objects trackers labels .frameCount ≡ state .frames + 1
+unfolding updateBy steps stagesFrom
+frame-is self state objects trackers labels = refl
 
-retained-is : (self : Settings) (state : State) (objects : List Float) (trackers : List Track)
-    → update self state objects trackers .retained ≡ retained (self .«max_age») (update self state objects trackers .started .trackers)
-unfolding update steps
-retained-is self state objects trackers = refl
+retained-is : (self : Settings) (state : State) (objects : Boxes) (trackers : List Track) (labels : List ℕ)
+    → update self state objects trackers labels .retained ≡ retained (self .«max_age») (update self state objects trackers labels .started .trackers)
+unfolding updateBy steps stagesFrom
+retained-is self state objects trackers labels = refl
 
 -- ---- how many boxes are retained
 
@@ -141,22 +163,23 @@ boosted-many st sim since n trackers l e =
     (cond-many (st .varying) (varying st sim since n trackers softened) softened n (varying-many st sim since n trackers softened)
     (cond-many (st .soft) (soft st sim since n trackers l) l n (soft-many st sim since n trackers l) e))
 
-dlo-many : (self : Settings) (corners ts cs : List Float) (trackers : List Track) (l : List Float) → length (afterDlo self corners ts cs trackers l) ≡ length l
+pub dlo-many : (like : ℕ → ℕ → Bool) (self : Settings) (corners ts cs : List Float) (trackers : List Track) (l : List Float) → length (afterDlo like self corners ts cs trackers l) ≡ length l
 unfolding afterDlo dlo dloConfidenceBoost
-dlo-many self corners ts cs trackers l =
+dlo-many like self corners ts cs trackers l =
     let n : ℕ = length l in
     let k : ℕ = length trackers in
     let st : DloSettings = dloSettings self in
-    let boost : List Float = boosted st (similarity st corners ts cs (getMhDistMatrix corners (trackerAt trackers)) n) (λ j. trackerAt trackers j .since) n k l in
+    let sim : ℕ → ℕ → Float = whereAlike like (similarity st corners ts cs (getMhDistMatrix corners (trackerAt trackers)) n) plusZero in
+    let boost : List Float = boosted st sim (λ j. trackerAt trackers j .since) n k l in
     cond-many (self .«use_dlo_boost» && some trackers) (cond (eqb k 0 || eqb n 0) l boost) l n
-    (cond-many (eqb k 0 || eqb n 0) l boost n refl (boosted-many st (similarity st corners ts cs (getMhDistMatrix corners (trackerAt trackers)) n) (λ j. trackerAt trackers j .since) n k l refl))
+    (cond-many (eqb k 0 || eqb n 0) l boost n refl (boosted-many st sim (λ j. trackerAt trackers j .since) n k l refl))
     refl
 
 masked-many : (corners l : List Float) (candidates : List ℕ) (thresh : Float) (n : ℕ) → length (masked corners l candidates thresh n) ≡ n
 unfolding masked
 masked-many corners l candidates thresh n = length-tab _ n
 
-duo-many : (self : Settings) (frameCount : ℕ) (corners : List Float) (trackers : List Track) (l : List Float) → length (afterDuo self frameCount corners trackers l) ≡ length l
+pub duo-many : (self : Settings) (frameCount : ℕ) (corners : List Float) (trackers : List Track) (l : List Float) → length (afterDuo self frameCount corners trackers l) ≡ length l
 unfolding afterDuo duo duoConfidenceBoost
 duo-many self frameCount corners trackers l =
     let n : ℕ = length l in
@@ -171,79 +194,126 @@ duo-many self frameCount corners trackers l =
     (cond-many (eqb n 0 || eqb k 0) l third n refl (cond-many (eqb (length candidates) 0) l mask n refl (masked-many corners l candidates (self .«det_thresh») n))))
     refl
 
-scores-many : (objects : List Float) → length (scores objects) ≡ boxesIn objects
+pub scores-many : (objects : List Float) → length (scores objects) ≡ boxesIn objects
 unfolding scores
 scores-many objects = length-tab (probOf objects) (boxesIn objects)
 
-kept-few : (thresh : Float) (l : List Float) → length (detScores l (remainInds thresh l)) ≤ length l
-unfolding detScores remainInds
-kept-few thresh l =
-    let few : length (sieve (remains thresh l) (indices (length l))) ≤ length (indices (length l)) = sieve-few (remains thresh l) (indices (length l)) in
-    let all : length (indices (length l)) ≡ length l = length-tab (λ i. i) (length l) in
-    rw (length-map (sieve (remains thresh l) (indices (length l))) (λ i. getD l i nan)) (rw all at few)
+pub scores-of : (l : List Float) (inds : List ℕ) → length (detScores l inds) ≡ length inds
+unfolding detScores
+scores-of l inds = length-map inds (λ i. getD l i nan)
+
+remain-few : (thresh : Float) (l : List Float) → length (remainInds thresh l) ≤ length l
+unfolding remainInds
+remain-few thresh l = rw (length-tab (λ i. i) (length l)) at (sieve-few (remains thresh l) (indices (length l)))
+
+pub kept-few : (thresh : Float) (l : List Float) → length (detScores l (remainInds thresh l)) ≤ length l
+kept-few thresh l = rw (scores-of l (remainInds thresh l)) (remain-few thresh l)
 
 -- ---- the definition's frame
 
-result-account : (self : Settings) (boxes probs : List Float) (trackers : List Track) (ts cs : List Float) → length probs ≤ 255 → length trackers ≤ 255
-    → Accounted (ious (length probs) (length trackers) boxes ts) (length probs) (length trackers) (self .«iou_threshold») (result self boxes probs trackers ts cs)
-unfolding result
-result-account self boxes probs trackers ts cs few-boxes few-tracks =
-    account (params self (length probs) (length trackers)) (length probs) (length trackers) boxes ts (mhDist (length probs) boxes trackers) cs probs few-boxes few-tracks
+-- the test by which a pair of the frame stands
+abbrev pub standing : Settings → List Float → ℕ → ℕ → List Float → List ℕ → List ℕ → Pair → Bool
+standing self boxes dets tracks ts boxLabels labels =
+    stands (alike sameLabel boxLabels labels) (ious (alike sameLabel boxLabels labels) dets tracks boxes ts) tracks (self .«iou_threshold»)
 
-module _ (s : Settings) (state : State) (f : List Float) (c : List ℕ) (boxes : List Float) (out work64 work32 : ℕ) (e : verdict s state f c boxes out work64 work32 ≡ Accepted) where
+result-account : (self : Settings) (boxes probs : List Float) (trackers : List Track) (ts cs : List Float) (boxLabels labels : List ℕ) → length probs ≤ 255 → length trackers ≤ 255
+    → Accounted (standing self boxes (length probs) (length trackers) ts boxLabels labels) (length probs) (length trackers) (result sameLabel self boxes probs trackers ts cs boxLabels labels)
+unfolding result
+result-account self boxes probs trackers ts cs boxLabels labels few-boxes few-tracks =
+    account sameLabel (params self (length probs) (length trackers)) (length probs) (length trackers) boxes ts (mhDist (length probs) boxes trackers) cs probs boxLabels labels few-boxes few-tracks
+
+module _ (s : Settings) (state : State) (t : Table) (boxes : Boxes) (out work64 work32 : ℕ) (e : verdict s state t boxes out work64 work32 ≡ Accepted) where
   abbrev held : List Track
-  held = tracks f c (state .count)
+  held = tracksIn t (state .count)
+
+  abbrev labels : List ℕ
+  labels = labelsIn t (state .count)
 
   abbrev frame : Stages
-  frame = update s state boxes held
+  frame = update s state boxes held labels
 
-  knows : Ready s state f c boxes out work64 work32
-  knows = ready s state f c boxes out work64 work32 e
+  knows : Ready s state t boxes out work64 work32
+  knows = ready s state t boxes out work64 work32 e
+
+  -- the boosts leave a score for each box
+  scored-many : length (frame .afterDuo) ≡ boxesIn (boxes .values)
+  unfolding updateBy steps stagesFrom
+  scored-many =
+      duo-many s (state .frames + 1) (bboxes (boxes .values)) (map predict held) (frame .afterDlo)
+      ∙ dlo-many (alike sameLabel (boxes .labels) labels) s (bboxes (boxes .values)) (frame .trks) (frame .confs) (map predict held) (scores (boxes .values))
+      ∙ scores-many (boxes .values)
 
   -- no more boxes are retained than there are
-  pub retained-few : length (frame .detScores) ≤ boxesIn boxes
-  unfolding update steps
-  retained-few =
-      let few = kept-few (s .«det_thresh») (frame .afterDuo) in
-      let once = dlo-many s (bboxes boxes) (frame .trks) (frame .confs) (map predict held) (scores boxes) in
-      let twice = duo-many s (state .frames + 1) (bboxes boxes) (map predict held) (frame .afterDlo) in
-      rw (twice ∙ once ∙ scores-many boxes) at few
+  pub retained-few : length (frame .detScores) ≤ boxesIn (boxes .values)
+  unfolding updateBy steps stagesFrom
+  retained-few = let few = kept-few (s .«det_thresh») (frame .afterDuo) in rw scored-many at few
 
   -- the assignment accounts for every retained box and every held track
-  pub frame-account : Accounted (ious (length (frame .detScores)) (state .count) (frame .detBboxes) (frame .trks)) (length (frame .detScores)) (state .count) (s .«iou_threshold») (frame .result)
-  unfolding update steps
+  pub frame-account : Accounted (standing s (frame .detBboxes) (length (frame .detScores)) (state .count) (frame .trks) (labelsOfBoxes boxes frame) labels) (length (frame .detScores)) (state .count) (frame .result)
+  unfolding updateBy steps stagesFrom
   frame-account =
       let many : length (map predict held) ≡ state .count = length-map held predict ∙ knows .many in
       let few = retained-few in
       let low = knows .boxes-low in
       let space = knows .space in
       let all : length (map predict held) ≤ 255 = rw many (omega arith) in
-      rw many at (result-account s (frame .detBboxes) (frame .detScores) (map predict held) (frame .trks) (frame .confs) (omega arith) all)
+      rw many at (result-account s (frame .detBboxes) (frame .detScores) (map predict held) (frame .trks) (frame .confs) (labelsOfBoxes boxes frame) labels (omega arith) all)
 
-  pub started-few : length (frame .result .unmatchedDetections) ≤ boxesIn boxes
+  pub started-few : length (frame .result .unmatchedDetections) ≤ boxesIn (boxes .values)
   started-few = let whole = frame-account .boxes-many in let few = retained-few in omega arith
 
   matched-so : frame .matched ≡ correctedBy (frame .detBboxes) (boxesOf (frame .result .matches)) (tracksOf (frame .result .matches)) (map predict held)
-  unfolding update steps
+  unfolding updateBy steps stagesFrom
   matched-so = matched-is (frame .detBboxes) (frame .result .matches) (map predict held)
 
   predicted-so : frame .predicted ≡ map predict held
-  unfolding update steps
+  unfolding updateBy steps stagesFrom
   predicted-so = refl
 
   -- all tracks before retirement
   all-started : frame .started ≡ startedFrom (state .last + length (frame .result .unmatchedDetections))
       (correctedBy (frame .detBboxes) (boxesOf (frame .result .matches)) (tracksOf (frame .result .matches)) (map predict held) ++ startedBy (state .last) (frame .detBboxes) (frame .result .unmatchedDetections))
-  unfolding update steps
+  unfolding updateBy steps stagesFrom
   all-started =
       started-is (s .«det_thresh») (frame .detBboxes) (frame .detScores) (frame .result .unmatchedDetections) (state .last) (frame .matched) (all-above (s .«det_thresh») (frame .afterDuo))
       (λ k h. frame-account .unmatched-boxes-once .below k h)
       ∙ rw (matched-is (frame .detBboxes) (frame .result .matches) (map predict held))
 
-  pub frame-facts : FrameFacts state held frame (holding (frame .retained) (tableWith f c))
+  -- an index for each retained score, and each is of a box
+  inds-many : length (frame .detScores) ≡ length (frame .remainInds)
+  unfolding updateBy steps stagesFrom
+  inds-many = scores-of (frame .afterDuo) (frame .remainInds)
+
+  inds-below : (i : ℕ) → i < length (frame .remainInds) → getD (frame .remainInds) i 0 < boxesIn (boxes .values)
+  unfolding updateBy steps stagesFrom
+  inds-below i h = let low = remain-below (s .«det_thresh») (frame .afterDuo) i h in rw scored-many at low
+
+  unmatched-within : (k : ℕ) → k < length (frame .result .unmatchedDetections) → getD (frame .result .unmatchedDetections) k 0 < length (frame .remainInds)
+  unmatched-within k h = let low = frame-account .unmatched-boxes-once .below k h in rw inds-many at low
+
+  pub frame-labels : Labelled boxes labels (state .count) frame
+  frame-labels =
+      let space = knows .space in
+      record {
+        many = length-take-le (state .count) (t .labels) (omega arith);
+        olds = λ j h. rw (getD-take (state .count) (t .labels) j 0 h) (knows .labels-good j h);
+        news = λ k h. knows .box-labels-good _ (inds-below _ (unmatched-within k h));
+        within = unmatched-within;
+        alike = λ k h. stands-alike (alike sameLabel (labelsOfBoxes boxes frame) labels) _ (state .count) (s .«iou_threshold») (pairAt frame k) (frame-account .stands k h);
+      }
+
+  pub frame-facts : FrameFacts s state boxes held labels frame (holding (frame .retained) (labelsRetained s (labelsAll boxes labels frame) frame) t)
   frame-facts =
       let space = knows .space in
       let low = knows .boxes-low in
       let few = started-few in
-      facts-of state held (λ i h. knows .each i (rw (knows .many) at h)) (knows .ids-rise) (knows .frames-low) (knows .ids-low) frame (frame-is s state boxes held) (s .«max_age») (retained-is s state boxes held)
-      {iou = ious (length (frame .detScores)) (state .count) (frame .detBboxes) (frame .trks)} {threshold = s .«iou_threshold»} (rw (knows .many) frame-account) all-started predicted-so matched-so (omega arith) (tableWith f c) (rw (knows .many) (omega arith))
+      facts-of s state boxes held labels (λ i h. knows .each i (rw (knows .many) at h)) (knows .ids-rise) (knows .frames-low) (knows .ids-low) frame (frame-is s state boxes held labels) (retained-is s state boxes held labels)
+      {ok = standing s (frame .detBboxes) (length (frame .detScores)) (state .count) (frame .trks) (labelsOfBoxes boxes frame) labels}
+      (rw (knows .many) frame-account) all-started predicted-so matched-so (omega arith) (rw (knows .many) frame-labels) t (rw (knows .many) (omega arith))
+
+  -- a label that every held track and every box has is that of every tracker
+  pub frame-label : (label : ℕ) → ((j : ℕ) → j < state .count → labelAt (t .labels) j ≡ label) → ((i : ℕ) → i < boxesIn (boxes .values) → labelAt (boxes .labels) i ≡ label)
+      → (i : ℕ) → i < length (frame .started .trackers) → labelAt (labelsAll boxes labels frame) i ≡ label
+  frame-label label tracks-are boxes-are i h =
+      all-labels boxes labels (state .count) frame frame-labels (λ n. n ≡ label) (λ j c. getD-take (state .count) (t .labels) j 0 c ∙ tracks-are j c) (λ k c. boxes-are _ (inds-below _ (unmatched-within k c))) i
+      (rw (frame-facts .many, knows .many) at h)

@@ -2,12 +2,13 @@
 -- passes the threshold. `all-above`, `matched-is` and `started-is` of proofs/PlainLaws.antt say that they are the definition's.
 use mathlib.Core.Path.{_≡_}
 use mathlib.Core.Bool.{true}
-use mathlib.Core.List.{List}
+use mathlib.Core.List.{List, map}
 use Prim.Native.Nat.{ℕ, _+_, _<_}
 use lib.ListN.{length, getD}
 use lib.Ieee.{Float, nan, le}
 use Rattle.laws.specs.Tab.{tab}
 use Rattle.laws.specs.Fold.{fold}
+use Rattle.labels.specs.Label.{labelAt}
 use Rattle.strack.specs.Strack.{new}
 use Rattle.boost_tracker_dlo.specs.MhDist.{det}
 use Rattle.boost_tracker_table.specs.Table.{Track, corrected}
@@ -35,3 +36,7 @@ startAt last corners unmatched k = new (det corners (getD unmatched k 0)) (last 
 
 unfoldable pub startedBy : ℕ → List Float → List ℕ → List Track
 startedBy last corners unmatched = tab (startAt last corners unmatched) (length unmatched)
+
+-- and their labels
+unfoldable pub startedLabels : List ℕ → List ℕ → List ℕ
+startedLabels boxLabels unmatched = map (labelAt boxLabels) unmatched

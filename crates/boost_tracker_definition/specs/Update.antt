@@ -1,5 +1,6 @@
--- boost_tracker.rs, `update_impl`, lines 249-390 without ECC: a frame, step by step, under the Rust's names. `Stages` has what each step leaves.
+-- boost_tracker.rs, `update_impl`, lines 249-390 without ECC, with the label rule of document 02, N2: a frame, step by step, under the Rust's names. `Stages` has what each step leaves.
 -- An object is five floats of `objects`: left, top, width, height, score. dets[i] of the Rust is box i of a list that has four corners for each, and element i of a list of scores.
+-- The labels of objects and trackers stand beside them. The rule for two labels is a parameter: with `sameLabel` it is 02's, and with `always` the Rust's frame, which knows no labels (Unlabelled).
 use mathlib.Core.Bool.{Bool, cond, _&&_}
 use mathlib.Core.List.{List, [], _∷_, _++_, map, foldl}
 use Prim.Native.Nat.{ℕ, _+_, _*_}
@@ -10,6 +11,7 @@ use Rattle.laws.specs.Tab.{tab, indices}
 use Rattle.laws.specs.Laid.{rows}
 use Rattle.laws.specs.Sieve.{sieve}
 use Rattle.laws.specs.Grid.{grid}
+use Rattle.labels.specs.Label.{labelAt, sameLabel, alike}
 use Rattle.strack.specs.declared.rect.Xyxy.{Xyxy}
 use Rattle.strack.specs.Rect.{getXyxy}
 use Rattle.strack.specs.Strack.{new, predict, getState, getConfidence}
@@ -21,12 +23,13 @@ use Rattle.records.specs.BoxRecord.{boxValues}
 use Rattle.boost_tracker_duo.specs.Duo.{duoConfidenceBoost}
 use Rattle.assoc_matching.specs.Matching.{Pair}
 use Rattle.assoc_assignment.specs.Assignment.{Assignment}
-use Rattle.assoc.specs.Association.{associate}
+use Rattle.assoc.specs.Association.{associateBy}
 use Rattle.boost_tracker_table.specs.declared.settings.Settings.{Settings}
 use Rattle.boost_tracker_verdict.specs.declared.sound.State.{State}
-use Rattle.boost_tracker_table.specs.Table.{Track, blank, corrected, retained}
+use Rattle.boost_tracker_table.specs.Table.{Track, blank, corrected, young, retained, labelsWhere}
 use Rattle.boost_tracker_table.specs.Record.{nineTenths}
 use Rattle.boost_tracker_table.specs.Emission.{emitted}
+use Rattle.boost_tracker_verdict.specs.Boxes.{Boxes}
 use Rattle.boost_tracker_verdict.specs.Verdict.{boxesIn}
 
 -- ---- the objects, lines 267-274
@@ -78,17 +81,17 @@ dloSettings self = record {
   thresh = self .«det_thresh»;
 }
 
--- self.dlo_confidence_boost(&mut dets, &trks, &confs) and self.duo_confidence_boost(&mut dets)
-unfoldable pub dlo : Settings → List Float → List Float → List Float → List Track → List Float → List Float
-dlo self bboxes trks confs trackers scores =
-    dloConfidenceBoost (dloSettings self) bboxes trks confs (getMhDistMatrix bboxes (trackerAt trackers)) (λ j. trackerAt trackers j .since) (length scores) (length trackers) scores
+-- self.dlo_confidence_boost(&mut dets, &trks, &confs), by whether box i and tracker j are alike, and self.duo_confidence_boost(&mut dets)
+unfoldable pub dlo : (ℕ → ℕ → Bool) → Settings → List Float → List Float → List Float → List Track → List Float → List Float
+dlo like self bboxes trks confs trackers scores =
+    dloConfidenceBoost like (dloSettings self) bboxes trks confs (getMhDistMatrix bboxes (trackerAt trackers)) (λ j. trackerAt trackers j .since) (length scores) (length trackers) scores
 
 unfoldable pub duo : Settings → ℕ → List Float → List Track → List Float → List Float
 duo self frameCount bboxes trackers scores =
     duoConfidenceBoost frameCount (self .«det_thresh») bboxes (getMhDistMatrix bboxes (trackerAt trackers)) (length scores) (length trackers) scores
 
-unfoldable pub afterDlo : Settings → List Float → List Float → List Float → List Track → List Float → List Float
-afterDlo self bboxes trks confs trackers scores = cond (self .«use_dlo_boost» && some trackers) (dlo self bboxes trks confs trackers scores) scores
+unfoldable pub afterDlo : (ℕ → ℕ → Bool) → Settings → List Float → List Float → List Float → List Track → List Float → List Float
+afterDlo like self bboxes trks confs trackers scores = cond (self .«use_dlo_boost» && some trackers) (dlo like self bboxes trks confs trackers scores) scores
 
 unfoldable pub afterDuo : Settings → ℕ → List Float → List Track → List Float → List Float
 afterDuo self frameCount bboxes trackers scores = cond (self .«use_duo_boost» && some trackers) (duo self frameCount bboxes trackers scores) scores
@@ -106,6 +109,10 @@ detBboxes objects remainInds = rows (λ i. cornersOf (xyxyOf objects i)) remainI
 
 unfoldable pub detScores : List Float → List ℕ → List Float
 detScores scores remainInds = map (λ i. getD scores i nan) remainInds
+
+-- and their labels
+unfoldable pub detLabels : List ℕ → List ℕ → List ℕ
+detLabels boxLabels remainInds = map (labelAt boxLabels) remainInds
 
 -- ---- steps 4 and 5, lines 312-342: the association
 
@@ -125,9 +132,9 @@ params self numDets numTrks = record {
   «has_confidence» = ltb 0 numTrks && ltb 0 numDets;
 }
 
-unfoldable pub result : Settings → List Float → List Float → List Track → List Float → List Float → Assignment
-result self detBboxes detScores trackers trks confs =
-    associate (params self (length detScores) (length trackers)) (length detScores) (length trackers) detBboxes trks (mhDist (length detScores) detBboxes trackers) confs detScores
+unfoldable pub result : (ℕ → ℕ → Bool) → Settings → List Float → List Float → List Track → List Float → List Float → List ℕ → List ℕ → Assignment
+result same self detBboxes detScores trackers trks confs detLabels labels =
+    associateBy same (params self (length detScores) (length trackers)) (length detScores) (length trackers) detBboxes trks (mhDist (length detScores) detBboxes trackers) confs detScores detLabels labels
 
 -- ---- step 6, lines 344-348: self.trackers[trk_idx].update(&det_bboxes[det_idx], score), which does not use the score
 
@@ -179,24 +186,21 @@ pub record Stages : Type 0 where
   pub output : List Track
   pub retained : List Track
 
--- from the predicted trackers on
-unfoldable pub steps : Settings → ℕ → ℕ → List Float → List Track → Stages
-steps self frameCount trackIdCount objects predicted =
-    let ts : List Float = trks predicted in
-    let cs : List Float = confs predicted in
-    let once : List Float = afterDlo self (bboxes objects) ts cs predicted (scores objects) in
+-- from the scores after the DLO boost on, by the pairs of the boxes that remain, of which the indices, corners and scores are given
+unfoldable pub stagesFrom : Settings → ℕ → ℕ → List Float → List Track → List Float → (List ℕ → List Float → List Float → Assignment) → Stages
+stagesFrom self frameCount trackIdCount objects predicted once pairs =
     let twice : List Float = afterDuo self frameCount (bboxes objects) predicted once in
     let inds : List ℕ = remainInds (self .«det_thresh») twice in
     let boxes : List Float = detBboxes objects inds in
     let probs : List Float = detScores twice inds in
-    let found : Assignment = result self boxes probs predicted ts cs in
+    let found : Assignment = pairs inds boxes probs in
     let hit : List Track = matched boxes (found .matches) predicted in
     let all : Started = started (self .«det_thresh») boxes probs (found .unmatchedDetections) (startedFrom trackIdCount hit) in
     record {
       frameCount = frameCount;
       predicted = predicted;
-      trks = ts;
-      confs = cs;
+      trks = trks predicted;
+      confs = confs predicted;
       afterDlo = once;
       afterDuo = twice;
       remainInds = inds;
@@ -210,9 +214,31 @@ steps self frameCount trackIdCount objects predicted =
       retained = retained (self .«max_age») (all .trackers);
     }
 
+-- from the predicted trackers on, by a rule for two labels
+unfoldable pub steps : (ℕ → ℕ → Bool) → Settings → ℕ → ℕ → Boxes → List Track → List ℕ → Stages
+steps same self frameCount trackIdCount objects predicted labels =
+    let ts : List Float = trks predicted in
+    let cs : List Float = confs predicted in
+    stagesFrom self frameCount trackIdCount (objects .values) predicted
+    (afterDlo (alike same (objects .labels) labels) self (bboxes (objects .values)) ts cs predicted (scores (objects .values)))
+    (λ inds boxes probs. result same self boxes probs predicted ts cs (detLabels (objects .labels) inds) labels)
+
 -- self.frame_count += 1, then every tracker is predicted
-unfoldable pub update : Settings → State → List Float → List Track → Stages
-update self state objects trackers = steps self (state .frames + 1) (state .last) objects (map predict trackers)
+unfoldable pub updateBy : (ℕ → ℕ → Bool) → Settings → State → Boxes → List Track → List ℕ → Stages
+updateBy same self state objects trackers labels = steps same self (state .frames + 1) (state .last) objects (map predict trackers) labels
+
+abbrev pub update : Settings → State → Boxes → List Track → List ℕ → Stages
+update = updateBy sameLabel
+
+-- ---- the labels of the trackers, 02, N2: "A new track takes its box's label", and a held one keeps its own
+
+-- after step 7
+unfoldable pub labelsStarted : List ℕ → List ℕ → Stages → List ℕ
+labelsStarted boxLabels labels g = labels ++ map (labelAt (detLabels boxLabels (g .remainInds))) (g .result .unmatchedDetections)
+
+-- of the trackers that are retained
+abbrev pub labelsRetained : Settings → List ℕ → Stages → List ℕ
+labelsRetained self all g = labelsWhere (young (self .«max_age»)) (g .started .trackers) all
 
 -- what stands beside the table then
 abbrev pub stateAfter : Stages → State

@@ -14,6 +14,7 @@ use Rattle.laws.specs.Tab.{tab, tab-at, tab-ext, length-tab}
 use Rattle.laws.specs.Fold.{fold-ext}
 use Rattle.laws.specs.Scan.{scan-ext, lowest}
 use Rattle.laws.specs.Grid.{grid, cellAt, grid-at}
+use Rattle.labels.specs.Label.{sameLabel, labelAt, alike, whereAlike}
 use Rattle.floats.specs.Pick.{larger}
 use Rattle.floats.specs.Single.{plusZero as 0·0, one}
 use Rattle.assoc_similarity.specs.Overlap.{iouBatch, softBiouBatch}
@@ -25,7 +26,7 @@ use Rattle.refusals.specs.declared.refusal.Verdict.the-variants.{Accepted, Refu
 use Rattle.assoc_similarity.specs.Sizes.{after}
 use Rattle.boost_tracker_dlo.specs.declared.dlo.DloSettings.{DloSettings}
 use Rattle.boost_tracker_dlo.specs.Dlo.{similarity, threshold, maxS, coefficient, soft, shouldBoost, varying, boosted, dloConfidenceBoost}
-use Rattle.boost_tracker_dlo.specs.Private.{shapeRow, third, rowSimilarity, mostOf, softened, varied, rowScore, boostedScore, mhdLeft}
+use Rattle.boost_tracker_dlo.specs.Private.{shapeRow, third, rowSimilarity, alikeRow, mostOf, softened, varied, rowScore, boostedScore, mhdLeft}
 use Rattle.boost_tracker_boosts.proofs.OneRow.{one-iou}
 use Rattle.boost_tracker_dlo.proofs.RowLaws.{one-soft, one-v1, one-v2}
 
@@ -51,6 +52,13 @@ module _ (q : DloSettings) (det trks confs : List Float) (mhd : ℕ → Float) (
       let long : length sh ≡ n = ap length s ∙ length-tab _ n in
       o ∙ ap (tab (λ j. third (mhd j) (getD sh j nan) (getD sb j nan))) long
       ∙ tab-ext _ _ n (λ j h. rw (e, s, b, tab-at (shapeRow (q .corrected) det trks) n j nan h, tab-at (softBiouBatch det trks confs 0) n j nan h))
+
+-- the cells of tracks of another label set to 0
+pub alike-row-is : (label : ℕ) (labels : List ℕ) (f : ℕ → Float) (n : ℕ) {row out : List Float} → row ≡ tab f n
+    → out ≡ tab (λ j. cond (sameLabel label (labelAt labels j)) (getD row j nan) 0·0) (length row) → out ≡ tab (alikeRow label labels f) n
+alike-row-is label labels f n {row} {out} r o =
+    let long : length row ≡ n = ap length r ∙ length-tab f n in
+    o ∙ rw (long, r) (tab-ext _ _ n (λ j h. rw (tab-at f n j nan h)))
 
 -- ---- the row of box i
 
@@ -110,33 +118,34 @@ unfolding tab
 no-scores f [] e = refl
 no-scores f (x ∷ l) e = absurd (omega arith)
 
-module _ (q : DloSettings) (detections trks confs distance mhd : List Float) (since : List ℕ) (boxes tracks : ℕ) (scores : List Float)
+module _ (q : DloSettings) (detections trks confs distance mhd : List Float) (since boxLabels trackLabels : List ℕ) (boxes tracks : ℕ) (scores : List Float)
     (size : length scores ≡ boxes) (long : length since ≡ tracks) (left : mhd ≡ mhdLeft (q .rich) boxes tracks distance) where
   abbrev sim : ℕ → ℕ → Float
-  sim = similarity q detections trks confs (cellAt nan tracks distance) boxes
+  sim = whereAlike (alike sameLabel boxLabels trackLabels) (similarity q detections trks confs (cellAt nan tracks distance) boxes) 0·0
 
-  rows-are : tab (λ i. boostedScore q detections trks confs mhd since i (getD scores i nan)) boxes ≡ boosted q sim (λ j. getD since j 0) boxes tracks scores
+  rows-are : tab (λ i. boostedScore q detections trks confs mhd since (labelAt boxLabels i) trackLabels i (getD scores i nan)) boxes ≡ boosted q sim (λ j. getD since j 0) boxes tracks scores
   unfolding boostedScore
   rows-are =
       rw (left, long)
-      (tab-ext _ _ boxes (λ i h. row-ext q _ (sim i) (λ j. getD since j 0) tracks (getD scores i nan) (λ j k. cell-is q detections trks confs distance boxes tracks i j h k))
+      (tab-ext _ _ boxes (λ i h. row-ext q _ (sim i) (λ j. getD since j 0) tracks (getD scores i nan)
+      (λ j k. ap (λ (x : Float). cond (sameLabel (labelAt boxLabels i) (labelAt trackLabels j)) x 0·0) (cell-is q detections trks confs distance boxes tracks i j h k)))
       ∙ row-by-row q sim (λ j. getD since j 0) boxes tracks scores size)
 
-  pub boost-is : (tracks ≡ 0 → ⊥) → tab (λ i. boostedScore q detections trks confs mhd since i (getD scores i nan)) (length scores)
-      ≡ dloConfidenceBoost q detections trks confs (cellAt nan tracks distance) (λ j. getD since j 0) boxes tracks scores
+  pub boost-is : (tracks ≡ 0 → ⊥) → tab (λ i. boostedScore q detections trks confs mhd since (labelAt boxLabels i) trackLabels i (getD scores i nan)) (length scores)
+      ≡ dloConfidenceBoost (alike sameLabel boxLabels trackLabels) q detections trks confs (cellAt nan tracks distance) (λ j. getD since j 0) boxes tracks scores
   unfolding dloConfidenceBoost
   boost-is some = rw (size, ne-eqb tracks 0 some) (by-cases (ℕ-discrete boxes 0))
     where
-      by-cases : Dec (boxes ≡ 0) → tab (λ i. boostedScore q detections trks confs mhd since i (getD scores i nan)) boxes
+      by-cases : Dec (boxes ≡ 0) → tab (λ i. boostedScore q detections trks confs mhd since (labelAt boxLabels i) trackLabels i (getD scores i nan)) boxes
           ≡ cond (false || eqb boxes 0) scores (boosted q sim (λ j. getD since j 0) boxes tracks scores)
       by-cases (yes e) = rw (eq-eqb boxes 0 e, e) (no-scores _ scores (size ∙ e))
       by-cases (no e) = rw (ne-eqb boxes 0 e) rows-are
 
 -- with no tracks nothing is boosted
-pub boost-none : (q : DloSettings) (detections trks confs : List Float) (mhDist : ℕ → ℕ → Float) (since : ℕ → ℕ) (boxes tracks : ℕ) (scores : List Float) → tracks ≡ 0
-    → scores ≡ dloConfidenceBoost q detections trks confs mhDist since boxes tracks scores
+pub boost-none : (like : ℕ → ℕ → Bool) (q : DloSettings) (detections trks confs : List Float) (mhDist : ℕ → ℕ → Float) (since : ℕ → ℕ) (boxes tracks : ℕ) (scores : List Float) → tracks ≡ 0
+    → scores ≡ dloConfidenceBoost like q detections trks confs mhDist since boxes tracks scores
 unfolding dloConfidenceBoost
-boost-none q detections trks confs mhDist since boxes tracks scores e = rw (eq-eqb tracks 0 e)
+boost-none like q detections trks confs mhDist since boxes tracks scores e = rw (eq-eqb tracks 0 e)
 
 -- ---- an accepted call
 

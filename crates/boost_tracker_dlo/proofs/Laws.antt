@@ -1,6 +1,7 @@
--- What the layer above wants of the definitions: states that were gathered from the trackers give the Rust's matrix, and over a matrix that was stored the boost is that of the matrix's cells. Assumes nothing.
+-- What the layer above wants of the definitions: states that were gathered from the trackers give the Rust's matrix; over a matrix that was stored the boost is that of the matrix's cells;
+-- and where all labels are alike the boost is that without labels. Assumes nothing.
 use mathlib.Core.Path.{_≡_, refl, sym, ap, _∙_}
-use mathlib.Core.Bool.{cond, _||_}
+use mathlib.Core.Bool.{Bool, true, cond, _||_}
 use mathlib.Core.List.{List}
 use Prim.Native.Nat.{ℕ, _*_, _<_}
 use native.Mathlib.Nat.{zero-add}
@@ -13,6 +14,7 @@ use Rattle.laws.specs.Fold.{fold-ext}
 use Rattle.laws.specs.Scan.{scan-ext, lowest}
 use Rattle.laws.specs.Packed.{packed, packed-at}
 use Rattle.laws.specs.Grid.{grid, cellAt, grid-at, grid-ext}
+use Rattle.labels.specs.Label.{whereAlike}
 use Rattle.floats.specs.Single.{_⊕_, plusZero as 0·0, one}
 use Rattle.floats.specs.Pick.{larger}
 use Rattle.strack_filter.specs.declared.kalman_filter.DetectBox.{DetectBox}
@@ -75,11 +77,22 @@ unfolding similarity
 similarity-ext q detBboxes trks confs f g boxes tracks i j e hi hj = rw (shared-ext f g boxes tracks i j e hi hj)
 
 -- over a matrix that was stored
-pub dlo-over : (q : DloSettings) (detBboxes trks confs : List Float) (cell : ℕ → ℕ → Float) (l : List Float) (since : ℕ → ℕ) (boxes tracks : ℕ) (scores : List Float)
-    → dloConfidenceBoost q detBboxes trks confs (cellAt nan tracks (grid cell boxes tracks l)) since boxes tracks scores ≡ dloConfidenceBoost q detBboxes trks confs cell since boxes tracks scores
+pub dlo-over : (like : ℕ → ℕ → Bool) (q : DloSettings) (detBboxes trks confs : List Float) (cell : ℕ → ℕ → Float) (l : List Float) (since : ℕ → ℕ) (boxes tracks : ℕ) (scores : List Float)
+    → dloConfidenceBoost like q detBboxes trks confs (cellAt nan tracks (grid cell boxes tracks l)) since boxes tracks scores ≡ dloConfidenceBoost like q detBboxes trks confs cell since boxes tracks scores
 unfolding dloConfidenceBoost
-dlo-over q detBboxes trks confs cell l since boxes tracks scores =
+dlo-over like q detBboxes trks confs cell l since boxes tracks scores =
     let stored : ℕ → ℕ → Float = cellAt nan tracks (grid cell boxes tracks l) in
     ap (λ (s : List Float). cond (eqb tracks 0 || eqb boxes 0) scores s)
-    (boosted-ext q (similarity q detBboxes trks confs stored boxes) (similarity q detBboxes trks confs cell boxes) since boxes tracks
-    (λ i j hi hj. similarity-ext q detBboxes trks confs stored cell boxes tracks i j (λ m k hm hk. grid-at cell boxes tracks l nan m k hm hk) hi hj) scores)
+    (boosted-ext q (whereAlike like (similarity q detBboxes trks confs stored boxes) 0·0) (whereAlike like (similarity q detBboxes trks confs cell boxes) 0·0) since boxes tracks
+    (λ i j hi hj. ap (λ (x : Float). cond (like i j) x 0·0) (similarity-ext q detBboxes trks confs stored cell boxes tracks i j (λ m k hm hk. grid-at cell boxes tracks l nan m k hm hk) hi hj)) scores)
+
+-- where all boxes and tracks are alike it is the boost of the Rust, which knows no labels
+pub dlo-alike : (like : ℕ → ℕ → Bool) (q : DloSettings) (detBboxes trks confs : List Float) (mhDist : ℕ → ℕ → Float) (since : ℕ → ℕ) (boxes tracks : ℕ) (scores : List Float)
+    → ((i j : ℕ) → i < boxes → j < tracks → like i j ≡ true)
+    → dloConfidenceBoost like q detBboxes trks confs mhDist since boxes tracks scores
+    ≡ cond (eqb tracks 0 || eqb boxes 0) scores (boosted q (similarity q detBboxes trks confs mhDist boxes) since boxes tracks scores)
+unfolding dloConfidenceBoost
+dlo-alike like q detBboxes trks confs mhDist since boxes tracks scores e =
+    let sim : ℕ → ℕ → Float = similarity q detBboxes trks confs mhDist boxes in
+    ap (λ (s : List Float). cond (eqb tracks 0 || eqb boxes 0) scores s)
+    (boosted-ext q (whereAlike like sim 0·0) sim since boxes tracks (λ i j hi hj. ap (λ (b : Bool). cond b (sim i j) 0·0) (e i j hi hj)) scores)

@@ -10,6 +10,7 @@ use lib.Ieee.{Float, nan, binary32, ofInt, lt, ofBits}
 use Rattle.laws.specs.Tab.{tab}
 use Rattle.laws.specs.Fold.{fold}
 use Rattle.laws.specs.Scan.{lowest}
+use Rattle.labels.specs.Label.{whereAlike}
 use Rattle.floats.specs.Pick.{larger}
 use Rattle.floats.specs.Power.{powf15}
 use Rattle.floats.specs.Single.{_⊕_, _⊖_, _⊗_, _⊘_, plusZero, one}
@@ -79,6 +80,7 @@ module _ (self : DloSettings) (similarity : ℕ → ℕ → Float) (timeSinceUpd
       let softened : List Float = cond (self .soft) (soft scores) scores in
       cond (not (self .soft) && not (self .varying)) (coefficient scores) (cond (self .varying) (varying softened) softened)
 
-unfoldable pub dloConfidenceBoost : DloSettings → List Float → List Float → List Float → (ℕ → ℕ → Float) → (ℕ → ℕ) → ℕ → ℕ → List Float → List Float
-dloConfidenceBoost self detBboxes trks confs mhDist timeSinceUpdate dets tracks scores =
-    cond (eqb tracks 0 || eqb dets 0) scores (boosted self (similarity self detBboxes trks confs mhDist dets) timeSinceUpdate dets tracks scores)
+-- 02, N2: "Where labels differ, .. the DLO similarity of that box and track [is] taken as 0", the rich one after its division; by whether box i and tracker j are alike
+unfoldable pub dloConfidenceBoost : (ℕ → ℕ → Bool) → DloSettings → List Float → List Float → List Float → (ℕ → ℕ → Float) → (ℕ → ℕ) → ℕ → ℕ → List Float → List Float
+dloConfidenceBoost like self detBboxes trks confs mhDist timeSinceUpdate dets tracks scores =
+    cond (eqb tracks 0 || eqb dets 0) scores (boosted self (whereAlike like (similarity self detBboxes trks confs mhDist dets) plusZero) timeSinceUpdate dets tracks scores)

@@ -25,9 +25,9 @@ use Rattle.boost_tracker_dlo.specs.Dlo.{similarity, alpha, alphaVt, thre
 abbrev settings : Bool → Bool → Bool → DloSettings
 settings rich soft varying = record { rich = rich; corrected = true; soft = soft; varying = varying; coef = alpha; thresh = detThresh }
 
--- one box of score 0.1, and as many tracks that stand where it does, each sure and corrected in the last frame
-abbrev dlo : DloSettings → ℕ → List ℕ
-dlo self tracks = map bits (dloConfidenceBoost self (box 0 0 10 10) (box 0 0 10 10) (one ∷ []) (λ i j. whole 0) (λ j. 1) 1 tracks (tenth ∷ []))
+-- one box of score 0.1, and as many tracks that stand where it does, each sure and corrected in the last frame, all alike or none
+abbrev dlo : Bool → DloSettings → ℕ → List ℕ
+dlo like self tracks = map bits (dloConfidenceBoost (λ i j. like) self (box 0 0 10 10) (box 0 0 10 10) (one ∷ []) (λ i j. whole 0) (λ j. 1) 1 tracks (tenth ∷ []))
 
 abbrev pub rows : List (List ℕ × List ℕ)
 rows =
@@ -37,12 +37,15 @@ rows =
     -- 1e10 at 1e-10 and below
     ∷ (map bits (map reciprocal (whole 0 ∷ f32 0x2edb_e6ff ∷ whole 10011 ∷ [])), 0x5015_02f9 ∷ 0x5015_02f9 ∷ 0x38d1_7c1a ∷ [])
     -- a boost by 0.65, one by 0.65 * 0.1 + 0.35 * 1, one to 0.6 + 1e-5, the last two together, the first by the rich similarity, and none without tracks
-    ∷ (dlo (settings false false false) 1, 0x3f26_6666 ∷ [])
-    ∷ (dlo (settings false true false) 1, 0x3ed4_7ae2 ∷ [])
-    ∷ (dlo (settings false false true) 1, 0x3f19_9a42 ∷ [])
-    ∷ (dlo (settings false true true) 1, 0x3f19_9a42 ∷ [])
-    ∷ (dlo (settings true false false) 1, 0x3f26_6666 ∷ [])
-    ∷ (dlo (settings false false false) 0, 0x3dcc_cccd ∷ [])
+    ∷ (dlo true (settings false false false) 1, 0x3f26_6666 ∷ [])
+    ∷ (dlo true (settings false true false) 1, 0x3ed4_7ae2 ∷ [])
+    ∷ (dlo true (settings false false true) 1, 0x3f19_9a42 ∷ [])
+    ∷ (dlo true (settings false true true) 1, 0x3f19_9a42 ∷ [])
+    ∷ (dlo true (settings true false false) 1, 0x3f26_6666 ∷ [])
+    ∷ (dlo true (settings false false false) 0, 0x3dcc_cccd ∷ [])
+    -- a track of another label boosts by none of these; the soft boost of it is 0.65 * 0.1, which is below 0.1
+    ∷ (dlo false (settings false false false) 1, 0x3dcc_cccd ∷ [])
+    ∷ (dlo false (settings true true true) 1, 0x3dcc_cccd ∷ [])
     ∷ []
 
 pub known : map (λ (row : List ℕ × List ℕ). row .0) rows ≡ map (λ (row : List ℕ × List ℕ). row .1) rows

@@ -8,6 +8,7 @@ use lib.ListN.{getD, length, take, drop}
 use lib.Ieee.{Float, nan, lt, binary32, ofBits}
 use Rattle.laws.specs.Fold.{fold}
 use Rattle.laws.specs.Scan.{lowest}
+use Rattle.labels.specs.Label.{sameLabel, labelAt}
 use Rattle.floats.specs.Pick.{larger}
 use Rattle.floats.specs.Power.{powf15}
 use Rattle.strack_filter.specs.declared.kalman_filter.DetectBox.{DetectBox}
@@ -67,10 +68,14 @@ unfoldable pub rowScore : DloSettings → (ℕ → Float) → (ℕ → ℕ) → 
 rowScore q row since tracks score =
     cond (q .soft || q .varying) (varied (q .varying) (q .thresh) row since tracks (softened (q .soft) row tracks score)) (larger score (mostOf row tracks ⊗ q .coef))
 
--- the score of box i, of its row
-unfoldable pub boostedScore : DloSettings → List Float → List Float → List Float → List Float → List ℕ → ℕ → Float → Float
-boostedScore q detections trks confs mhd since i score =
-    rowScore q (rowSimilarity q (take 4 (drop (i * 4) detections)) trks confs (λ j. getD mhd (i * length since + j) nan)) (λ j. getD since j 0) (length since) score
+-- a row, with 0 in the cells of tracks that have another label
+abbrev pub alikeRow : ℕ → List ℕ → (ℕ → Float) → ℕ → Float
+alikeRow label labels row j = cond (sameLabel label (labelAt labels j)) (row j) plusZero
+
+-- the score of box i, of its row and its label
+unfoldable pub boostedScore : DloSettings → List Float → List Float → List Float → List Float → List ℕ → ℕ → List ℕ → ℕ → Float → Float
+boostedScore q detections trks confs mhd since label labels i score =
+    rowScore q (alikeRow label labels (rowSimilarity q (take 4 (drop (i * 4) detections)) trks confs (λ j. getD mhd (i * length since + j) nan))) (λ j. getD since j 0) (length since) score
 
 -- lengths of the slices where box i is within them
 pub record Framed (i detections trks confs mhd since : ℕ) : Type 0 where

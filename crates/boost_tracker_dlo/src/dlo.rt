@@ -10,6 +10,7 @@ ghost use lib.Ieee.{nan, lt};
 ghost use Rattle.laws.specs.Tab.{tab};
 ghost use Rattle.laws.specs.Grid.{cellAt};
 ghost use Rattle.laws.specs.Scan.{lowest};
+ghost use Rattle.labels.specs.Label.{sameLabel, labelAt, alike};
 ghost use Rattle.floats.specs.Single.{one};
 ghost use Rattle.assoc_similarity.specs.Sizes.{after};
 ghost use Rattle.assoc_similarity.specs.Mahalanobis.{mhDistSimilarity};
@@ -164,7 +165,7 @@ fn row_score(q: DloSettings, row: &[f32], since: &[u32], score: f32) -> f32
 
 // ---- all boxes
 
-// The new score of box i; its row of similarities is computed in `row`, with `sbiou` beside it.
+// The new score of box i, which has this label; its row of similarities is computed in `row`, with `sbiou` beside it.
 fn boosted(
     q: DloSettings,
     detections: &[f32],
@@ -172,13 +173,15 @@ fn boosted(
     confs: &[f32],
     mhd: &[f32],
     since: &[u32],
+    label: u8,
+    track_labels: &[u8],
     i: usize,
     score: f32,
     sbiou: &mut [f32],
     row: &mut [f32],
 ) -> f32
     requires { ⌜ Framed i (length (now detections)) (length (now trks)) (length (now confs)) (length (now mhd)) (length (now since)) × ((length (now sbiou) ≡ length (now since)) × (length (now row) ≡ length (now since))) ⌝ }
-    ensures { λ r. ⌜ r ≡ Private.boostedScore q (now (detections .entry)) (now (trks .entry)) (now (confs .entry)) (now (mhd .entry)) (now (since .entry)) i score ⌝ }
+    ensures { λ r. ⌜ r ≡ Private.boostedScore q (now (detections .entry)) (now (trks .entry)) (now (confs .entry)) (now (mhd .entry)) (now (since .entry)) label (now («track_labels» .entry)) i score ⌝ }
 {
     let det = i * 4;
     let at = i * since.len();
@@ -192,6 +195,7 @@ fn boosted(
         sbiou,
         row,
     );
+    labels::set_unlike(label, track_labels, 0.0, row);
     row_score(q, row, since, score)
 }
 
@@ -202,15 +206,18 @@ fn boost_rows_with(
     confs: &[f32],
     mhd: &[f32],
     since: &[u32],
+    box_labels: &[u8],
+    track_labels: &[u8],
     scores: &mut [f32],
     sbiou: &mut [f32],
     row: &mut [f32],
 )
     requires { ⌜ Private.Ready (length (now detections)) (length (now trks)) (length (now confs)) (length (now mhd)) (length (now since)) (length (now scores)) × ((length (now sbiou) ≡ length (now since)) × (length (now row) ≡ length (now since))) ⌝ }
-    ensures { λ _. ⌜ now (scores .exit) ≡ tab (λ i. Private.boostedScore q (now (detections .entry)) (now (trks .entry)) (now (confs .entry)) (now (mhd .entry)) (now (since .entry)) i (getD (now (scores .entry)) i nan)) (length (now (scores .entry))) ⌝ }
+    ensures { λ _. ⌜ now (scores .exit) ≡ tab (λ i. Private.boostedScore q (now (detections .entry)) (now (trks .entry)) (now (confs .entry)) (now (mhd .entry)) (now (since .entry)) (labelAt (now («box_labels» .entry)) i) (now («track_labels» .entry)) i (getD (now (scores .entry)) i nan)) (length (now (scores .entry))) ⌝ }
 {
     let mut i = 0;
     while i < scores.len() {
+        let label = labels::label_at(box_labels, i);
         scores[i] = boosted(
             q,
             detections,
@@ -218,6 +225,8 @@ fn boost_rows_with(
             confs,
             mhd,
             since,
+            label,
+            track_labels,
             i,
             scores[i],
             sbiou,
@@ -234,10 +243,12 @@ fn boost_rows(
     confs: &[f32],
     mhd: &[f32],
     since: &[u32],
+    box_labels: &[u8],
+    track_labels: &[u8],
     scores: &mut [f32],
 )
     requires { ⌜ Private.Ready (length (now detections)) (length (now trks)) (length (now confs)) (length (now mhd)) (length (now since)) (length (now scores)) ⌝ }
-    ensures { λ _. ⌜ now (scores .exit) ≡ tab (λ i. Private.boostedScore q (now (detections .entry)) (now (trks .entry)) (now (confs .entry)) (now (mhd .entry)) (now (since .entry)) i (getD (now (scores .entry)) i nan)) (length (now (scores .entry))) ⌝ }
+    ensures { λ _. ⌜ now (scores .exit) ≡ tab (λ i. Private.boostedScore q (now (detections .entry)) (now (trks .entry)) (now (confs .entry)) (now (mhd .entry)) (now (since .entry)) (labelAt (now («box_labels» .entry)) i) (now («track_labels» .entry)) i (getD (now (scores .entry)) i nan)) (length (now (scores .entry))) ⌝ }
 {
     let tracks = since.len();
     let mut sbiou = [0.0f32; 255];
@@ -249,6 +260,8 @@ fn boost_rows(
         confs,
         mhd,
         since,
+        box_labels,
+        track_labels,
         scores,
         &mut sbiou[..tracks],
         &mut row[..tracks],
@@ -267,6 +280,7 @@ fn distance_similarity(rich: bool, boxes: usize, tracks: usize, distance: &mut [
 }
 
 // The scores of boxes that are like a track are raised. For each track there are four corners in trks, its confidence in confs and its time since update in since.
+// A box is not like a track of another label; a label that is not there is as label 0.
 // distance is what get_mh_dist_matrix left; the rich similarity puts mhd_sim over it, and any other leaves it.
 pub fn dlo_confidence_boost(
     q: DloSettings,
@@ -276,12 +290,14 @@ pub fn dlo_confidence_boost(
     trks: &[f32],
     confs: &[f32],
     since: &[u32],
+    box_labels: &[u8],
+    track_labels: &[u8],
     distance: &mut [f32],
     scores: &mut [f32],
 ) -> Verdict
     ensures answer { λ r. ⌜ r ≡ ofDlo boxes tracks (length (now (detections .entry))) (length (now (trks .entry))) (length (now (confs .entry))) (length (now (since .entry))) (length (now (distance .entry))) (length (now (scores .entry))) ⌝ }
     ensures work { λ r. ⌜ now (distance .exit) ≡ cond (q .rich) (after r (mhDistSimilarity (now (distance .entry)) one boxes tracks) boxes tracks (now (distance .entry))) (now (distance .entry)) ⌝ }
-    ensures boosted { λ r. ⌜ now (scores .exit) ≡ boostedBy r (Dlo.dloConfidenceBoost q (now (detections .entry)) (now (trks .entry)) (now (confs .entry)) (cellAt nan tracks (now (distance .entry))) (λ j. getD (now (since .entry)) j 0) boxes tracks (now (scores .entry))) (now (scores .entry)) ⌝ }
+    ensures boosted { λ r. ⌜ now (scores .exit) ≡ boostedBy r (Dlo.dloConfidenceBoost (alike sameLabel (now («box_labels» .entry)) (now («track_labels» .entry))) q (now (detections .entry)) (now (trks .entry)) (now (confs .entry)) (cellAt nan tracks (now (distance .entry))) (λ j. getD (now (since .entry)) j 0) boxes tracks (now (scores .entry))) (now (scores .entry)) ⌝ }
 {
     let verdict = of_dlo(
         boxes,
@@ -300,6 +316,16 @@ pub fn dlo_confidence_boost(
     if tracks == 0 {
         return verdict;
     }
-    boost_rows(q, detections, trks, confs, distance, since, scores);
+    boost_rows(
+        q,
+        detections,
+        trks,
+        confs,
+        distance,
+        since,
+        box_labels,
+        track_labels,
+        scores,
+    );
     verdict
 }

@@ -1,17 +1,18 @@
 -- What the tests of `follow` tell: that counts, places and ids fit, and that every index is of a box. Assumes nothing.
-use mathlib.Core.Path.{_≡_, refl, sym, _∙_}
+use mathlib.Core.Path.{_≡_, refl, sym}
 use mathlib.Core.Bool.{Bool, true, false, cond, _&&_}
 use mathlib.Core.List.{List}
-use Prim.Native.Nat.{ℕ, zero, suc, _+_, _-_, _/_, _≤_, _<_, _^_}
+use Prim.Native.Nat.{ℕ, _+_, _-_, _/_, _≤_, _<_, _^_}
 use native.Mathlib.Nat.{le-of-eq}
 use native.Mathlib.Omega.{arith}
 use lib.Dec.{leb, ltb}
 use lib.ListN.{length, getD}
 use borrow.Author.Tests.{ltb-true, ltb-false, leb-true, leb-false, lt-ltb, le-ltb, le-leb, lt-leb}
 use Rattle.laws.specs.Tests.{and-left, and-right}
-use Rattle.laws.specs.Scan.{scan, lowest, scan-ext}
+use Rattle.laws.specs.Scan.{lowest}
 use Rattle.laws.specs.Every.{lowest-none}
 use Rattle.assoc_assignment.specs.declared.assignment.AssignmentCounts.{AssignmentCounts}
+use Rattle.boost_tracker_definition.proofs.LabelFacts.{lowest-never}
 use Rattle.boost_tracker_follow.specs.Corrections.{inside, fits, Listed}
 
 -- ---- counts, places and ids
@@ -84,15 +85,10 @@ inside-listed indices corners e k h =
     let low : getD indices k 0 < corners / 4 = leb-false (corners / 4) (getD indices k 0) none in
     omega (arith, low)
 
-scan-never : (k n : ℕ) → scan (λ _. false) k n ≡ k + n
-unfolding scan
-scan-never k zero = omega arith
-scan-never k (suc n) = scan-never (suc k) n ∙ omega arith
-
 pub listed-inside : (indices : List ℕ) (corners : ℕ) → Listed indices corners → inside indices (corners / 4) ≡ true
 unfolding inside
 listed-inside indices corners w =
     let p : ℕ → Bool = λ j. leb (corners / 4) (getD indices j 0) in
-    let none : (j : ℕ) → j < 0 + length indices → p j ≡ false = λ j h. lt-leb (corners / 4) (getD indices j 0) (let b = w j (omega (arith, h)) in omega (arith, b)) in
-    let all : lowest p (length indices) ≡ length indices = scan-ext p (λ _. false) 0 (length indices) none ∙ scan-never 0 (length indices) ∙ omega arith in
+    let none : (j : ℕ) → j < length indices → p j ≡ false = λ j h. lt-leb (corners / 4) (getD indices j 0) (let b = w j h in omega (arith, b)) in
+    let all : lowest p (length indices) ≡ length indices = lowest-never p (length indices) none in
     le-leb (length indices) (lowest p (length indices)) (le-of-eq (sym all))

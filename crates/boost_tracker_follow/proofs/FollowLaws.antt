@@ -1,29 +1,34 @@
--- Tracks corrected by their boxes, and tracks started for the others: what the two loops know, and what the tests before them tell. Assumes nothing.
+-- Tracks corrected by their boxes, and tracks started for the others with their labels: what the loops know, and what the tests before them tell. Assumes nothing.
 use mathlib.Core.Path.{_≡_, refl, sym, ap, _∙_}
 use mathlib.Core.Bool.{Bool, true, false, not, _&&_}
 use mathlib.Core.List.{List, [], _∷_, _++_, append-assoc, append-nil}
-use Prim.Native.Nat.{ℕ, _+_, _/_, _≤_, _<_, zero-le}
+use Prim.Native.Nat.{ℕ, _+_, _-_, _/_, _≤_, _<_, zero-le}
 use native.Mathlib.Nat.{le-of-eq}
 use native.Mathlib.Omega.{arith}
-use lib.ListN.{length, length-append, length-set, getD, take}
+use lib.ListN.{length, length-append, length-map, length-set, getD, take, drop}
+use lib.Seq.{length-take-le}
 use lib.Ieee.{Float}
 use borrow.Author.Tests.{not-true, not-false}
 use Rattle.laws.specs.Tests.{and-left, and-right}
 use Rattle.laws.specs.Tab.{tab, length-tab, tab-more}
 use Rattle.laws.specs.Fold.{fold, fold-more}
+use borrow.Rule.Slice.PartMut.{putMid}
+use Rattle.laws.specs.Splice.{splice, mid-splice}
+use Rattle.laws.specs.Over.{over}
+use Rattle.labels.specs.Label.{labelAt}
 use Rattle.strack.specs.declared.rect.Xyxy.{Xyxy}
 use Rattle.strack.specs.Strack.{new}
 use Rattle.boost_tracker_dlo.specs.MhDist.{det}
-use Rattle.boost_tracker_table.specs.Table.{Track, capacity, tracks, corrected, pushed, Laying}
+use Rattle.boost_tracker_table.specs.Table.{Track, capacity, placesIn, tracks, corrected, pushed, Laying}
 use Rattle.boost_tracker_table.proofs.Laws.{low-room, tracks-many, lay-here, lay-lengths, lay-next, pushed-room, laid-table}
 use Rattle.refusals.specs.declared.refusal.Refusal.the-variants.{OtherSize, TooShort}
 use Rattle.assoc_assignment.specs.declared.assignment.AssignmentCounts.{AssignmentCounts}
 use Rattle.assoc_assignment.specs.declared.assignment.AssignmentAnswer.{AssignmentAnswer}
 use Rattle.assoc_assignment.specs.declared.assignment.AssignmentAnswer.the-variants.{Assigned, Refused}
 use Rattle.boost_tracker_table.specs.Lent.{Table, tableWith, laidOver, callWith}
-use Rattle.boost_tracker_follow.specs.Corrections.{inside, fits, Listed, tracksAfter, followedListed, followed}
+use Rattle.boost_tracker_follow.specs.Corrections.{inside, fits, Listed, tracksAfter, labelsAfter, followedListed, followed}
 use Rattle.boost_tracker_follow.proofs.FitLaws.{FollowRoom, fits-room, room-fits, listed-inside}
-use Rattle.boost_tracker_definition.specs.Plain.{correctedBy, correctOne, startedBy, startAt}
+use Rattle.boost_tracker_definition.specs.Plain.{correctedBy, correctOne, startedBy, startAt, startedLabels}
 use Rattle.boost_tracker_definition.proofs.PlainLaws.{correct-many, corrected-many}
 
 -- ---- the loop of corrections
@@ -108,53 +113,72 @@ both-laid corners pairBoxes pairTracks unmatched last held {f₀} {f₁} {f₂} 
     lay-next p (λ ts. ts ++ startedBy last corners unmatched) (corrected-many corners pairBoxes pairTracks (tracks f₀ c₀ held) ∙ tracks-many f₀ c₀ held room) room q
     (rw (length-append xs (startedBy last corners unmatched)) (omega arith))
 
+-- ---- the labels
+
+-- the labels of boxes, stored where they were lent
+pub labels-stored : (l : List ℕ) (held : ℕ) (boxLabels unmatched : List ℕ) {vs : List ℕ} → vs ≡ startedLabels boxLabels unmatched
+    → putMid held (held + length unmatched - held) l vs ≡ splice l held (startedLabels boxLabels unmatched)
+unfolding startedLabels
+labels-stored l held boxLabels unmatched {vs} e = mid-splice l held (length unmatched) vs (ap length e ∙ length-map unmatched (labelAt boxLabels)) ∙ ap (splice l held) e
+
+-- labels stored behind those held
+pub behind-held : (l xs : List ℕ) (held : ℕ) → held ≤ length l → splice l held xs ≡ over (take held l ++ xs) l
+unfolding over
+behind-held l xs held h = rw (length-append (take held l) xs, length-take-le held l h) (sym (append-assoc (take held l) xs (drop (held + length xs) l)))
+
 -- ---- the indices
 
-module _ (held last : ℕ) (corners : List Float) (counts : AssignmentCounts) (pairBoxes pairTracks unmatched : List ℕ) (f : List Float) (c : List ℕ) {a b : Bool} (ea : a ≡ inside pairBoxes (length corners / 4))
-    (eb : b ≡ inside unmatched (length corners / 4)) where
+module _ (held last : ℕ) (corners : List Float) (boxLabels : List ℕ) (counts : AssignmentCounts) (pairBoxes pairTracks unmatched : List ℕ) (f : List Float) (c l : List ℕ) {a b : Bool}
+    (ea : a ≡ inside pairBoxes (length corners / 4)) (eb : b ≡ inside unmatched (length corners / 4)) where
   -- some index is of no box
-  pub not-listed : not (a && b) ≡ true → callWith (Refused OtherSize) (tableWith f c) ≡ followedListed held last corners counts pairBoxes pairTracks unmatched (tableWith f c)
+  pub not-listed : not (a && b) ≡ true → callWith (Refused OtherSize) (tableWith f c l) ≡ followedListed held last corners boxLabels counts pairBoxes pairTracks unmatched (tableWith f c l)
   unfolding followedListed
   not-listed h = rw (← ea, ← eb, not-true (a && b) h)
 
   pub both-inside : not (a && b) ≡ false → (inside pairBoxes (length corners / 4) ≡ true) × (inside unmatched (length corners / 4) ≡ true)
   both-inside h = let e = not-false (a && b) h in (sym ea ∙ and-left a b e, sym eb ∙ and-right a b e)
 
-  pub listed : {f₁ f₂ : List Float} {c₁ c₂ : List ℕ} → not (a && b) ≡ false → held ≤ capacity (length f) (length c)
+  pub listed : {f₁ f₂ : List Float} {c₁ c₂ l₂ : List ℕ} → not (a && b) ≡ false → held ≤ placesIn (length f) (length c) (length l)
       → Laying f c f₁ c₁ (correctedBy corners pairBoxes pairTracks (tracks f c held)) → Laying f₁ c₁ f₂ c₂ (tracks f₁ c₁ held ++ startedBy last corners unmatched)
-      → callWith (Assigned counts) (tableWith f₂ c₂) ≡ followedListed held last corners counts pairBoxes pairTracks unmatched (tableWith f c)
+      → l₂ ≡ splice l held (startedLabels boxLabels unmatched)
+      → callWith (Assigned counts) (tableWith f₂ c₂ l₂) ≡ followedListed held last corners boxLabels counts pairBoxes pairTracks unmatched (tableWith f c l)
   unfolding followedListed
-  listed h room p q =
+  listed h room p q e =
       let known = both-inside h in
-      rw (known .0, known .1) (ap (λ (t : Table). callWith (Assigned counts) t) (laid-table (both-laid corners pairBoxes pairTracks unmatched last held room p q)))
+      let named = e ∙ behind-held l (startedLabels boxLabels unmatched) held (omega (arith, room)) in
+      rw (known .0, known .1) (ap (λ (t : Table). callWith (Assigned counts) t) (laid-table l (take held l ++ startedLabels boxLabels unmatched) (both-laid corners pairBoxes pairTracks unmatched last held (omega (arith, room)) p q) named))
 
 -- ---- a call
 
-module _ (held last : ℕ) (corners : List Float) (counts : AssignmentCounts) (pairBoxes pairTracks unmatched : List ℕ) (f : List Float) (c : List ℕ) where
-  abbrev fitting : Bool
-  fitting = fits held (capacity (length f) (length c)) last counts (length pairBoxes) (length pairTracks) (length unmatched)
+module _ (held last : ℕ) (corners : List Float) (boxLabels : List ℕ) (counts : AssignmentCounts) (pairBoxes pairTracks unmatched : List ℕ) (f : List Float) (c l : List ℕ) where
+  abbrev places : ℕ
+  places = placesIn (length f) (length c) (length l)
 
-  module _ {r : Bool} {places : ℕ} (e : places ≡ capacity (length f) (length c)) (h : r ≡ fits held places last counts (length pairBoxes) (length pairTracks) (length unmatched)) where
+  abbrev fitting : Bool
+  fitting = fits held places last counts (length pairBoxes) (length pairTracks) (length unmatched)
+
+  module _ {r : Bool} {n : ℕ} (e : n ≡ places) (h : r ≡ fits held n last counts (length pairBoxes) (length pairTracks) (length unmatched)) where
     known : r ≡ fitting
     known = rw e at h
 
-    pub not-fitting : not r ≡ true → callWith (Refused TooShort) (tableWith f c) ≡ followed held last corners counts pairBoxes pairTracks unmatched (tableWith f c)
+    pub not-fitting : not r ≡ true → callWith (Refused TooShort) (tableWith f c l) ≡ followed held last corners boxLabels counts pairBoxes pairTracks unmatched (tableWith f c l)
     unfolding followed
     not-fitting t = rw (sym known ∙ not-true r t)
 
-    pub room-of : not r ≡ false → FollowRoom held (capacity (length f) (length c)) last counts (length pairBoxes) (length pairTracks) (length unmatched)
+    pub room-of : not r ≡ false → FollowRoom held places last counts (length pairBoxes) (length pairTracks) (length unmatched)
     room-of t = fits-room (sym known ∙ not-false r t)
 
-    pub follows : {f′ : List Float} {c′ : List ℕ} {q : AssignmentAnswer} → not r ≡ false
-        → callWith q (tableWith f′ c′) ≡ followedListed held last corners counts (take (counts .pairs) pairBoxes) (take (counts .pairs) pairTracks) (take (counts .detections) unmatched) (tableWith f c)
-        → callWith q (tableWith f′ c′) ≡ followed held last corners counts pairBoxes pairTracks unmatched (tableWith f c)
+    pub follows : {f′ : List Float} {c′ l′ : List ℕ} {q : AssignmentAnswer} → not r ≡ false
+        → callWith q (tableWith f′ c′ l′) ≡ followedListed held last corners boxLabels counts (take (counts .pairs) pairBoxes) (take (counts .pairs) pairTracks) (take (counts .detections) unmatched) (tableWith f c l)
+        → callWith q (tableWith f′ c′ l′) ≡ followed held last corners boxLabels counts pairBoxes pairTracks unmatched (tableWith f c l)
     unfolding followed
     follows t w = rw (sym known ∙ not-false r t) w
 
   -- for callers, where it can be done
-  pub followed-is : FollowRoom held (capacity (length f) (length c)) last counts (length pairBoxes) (length pairTracks) (length unmatched)
+  pub followed-is : FollowRoom held places last counts (length pairBoxes) (length pairTracks) (length unmatched)
       → Listed (take (counts .pairs) pairBoxes) (length corners) → Listed (take (counts .detections) unmatched) (length corners)
-      → followed held last corners counts pairBoxes pairTracks unmatched (tableWith f c)
-      ≡ callWith (Assigned counts) (laidOver (tracksAfter held last corners (take (counts .pairs) pairBoxes) (take (counts .pairs) pairTracks) (take (counts .detections) unmatched) (tableWith f c)) (tableWith f c))
+      → followed held last corners boxLabels counts pairBoxes pairTracks unmatched (tableWith f c l)
+      ≡ callWith (Assigned counts) (laidOver (tracksAfter held last corners (take (counts .pairs) pairBoxes) (take (counts .pairs) pairTracks) (take (counts .detections) unmatched) (tableWith f c l))
+      (labelsAfter held boxLabels (take (counts .detections) unmatched) (tableWith f c l)) (tableWith f c l))
   unfolding followed followedListed
   followed-is room a b = rw (room-fits room, listed-inside (take (counts .pairs) pairBoxes) (length corners) a, listed-inside (take (counts .detections) unmatched) (length corners) b)

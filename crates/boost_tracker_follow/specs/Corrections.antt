@@ -11,8 +11,8 @@ use Rattle.assoc_assignment.specs.declared.assignment.AssignmentCounts.{Assignm
 use Rattle.assoc_assignment.specs.declared.assignment.AssignmentAnswer.{AssignmentAnswer}
 use Rattle.assoc_assignment.specs.declared.assignment.AssignmentAnswer.the-variants.{Assigned, Refused}
 use Rattle.boost_tracker_table.specs.Table.{Track}
-use Rattle.boost_tracker_table.specs.Lent.{Table, placesOf, tracksIn, laidOver, Call, callWith}
-use Rattle.boost_tracker_definition.specs.Plain.{correctedBy, startedBy}
+use Rattle.boost_tracker_table.specs.Lent.{Table, placesOf, tracksIn, labelsIn, laidOver, Call, callWith}
+use Rattle.boost_tracker_definition.specs.Plain.{correctedBy, startedBy, startedLabels}
 
 -- ---- the tests
 
@@ -37,16 +37,20 @@ Listed indices corners = (k : ℕ) → k < length indices → getD indices k 0 *
 abbrev pub tracksAfter : ℕ → ℕ → List Float → List ℕ → List ℕ → List ℕ → Table → List Track
 tracksAfter held last corners pairBoxes pairTracks unmatched t = correctedBy corners pairBoxes pairTracks (tracksIn t held) ++ startedBy last corners unmatched
 
+-- the labels of the held tracks, and of their boxes those of the started ones
+abbrev pub labelsAfter : ℕ → List ℕ → List ℕ → Table → List ℕ
+labelsAfter held boxLabels unmatched t = labelsIn t held ++ startedLabels boxLabels unmatched
+
 -- by lists that have no more than what is counted
-unfoldable pub followedListed : ℕ → ℕ → List Float → AssignmentCounts → List ℕ → List ℕ → List ℕ → Table → Call AssignmentAnswer Table
-followedListed held last corners counts pairBoxes pairTracks unmatched t =
+unfoldable pub followedListed : ℕ → ℕ → List Float → List ℕ → AssignmentCounts → List ℕ → List ℕ → List ℕ → Table → Call AssignmentAnswer Table
+followedListed held last corners boxLabels counts pairBoxes pairTracks unmatched t =
     cond (inside pairBoxes (length corners / 4) && inside unmatched (length corners / 4))
-    (callWith (Assigned counts) (laidOver (tracksAfter held last corners pairBoxes pairTracks unmatched t) t))
+    (callWith (Assigned counts) (laidOver (tracksAfter held last corners pairBoxes pairTracks unmatched t) (labelsAfter held boxLabels unmatched t) t))
     (callWith (Refused OtherSize) t)
 
 -- the counts again where that was done; where it was not, the table is as it was
-unfoldable pub followed : ℕ → ℕ → List Float → AssignmentCounts → List ℕ → List ℕ → List ℕ → Table → Call AssignmentAnswer Table
-followed held last corners counts pairBoxes pairTracks unmatched t =
+unfoldable pub followed : ℕ → ℕ → List Float → List ℕ → AssignmentCounts → List ℕ → List ℕ → List ℕ → Table → Call AssignmentAnswer Table
+followed held last corners boxLabels counts pairBoxes pairTracks unmatched t =
     cond (fits held (placesOf t) last counts (length pairBoxes) (length pairTracks) (length unmatched))
-    (followedListed held last corners counts (take (counts .pairs) pairBoxes) (take (counts .pairs) pairTracks) (take (counts .detections) unmatched) t)
+    (followedListed held last corners boxLabels counts (take (counts .pairs) pairBoxes) (take (counts .pairs) pairTracks) (take (counts .detections) unmatched) t)
     (callWith (Refused TooShort) t)

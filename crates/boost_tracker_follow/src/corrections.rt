@@ -1,4 +1,4 @@
-// Steps 6 and 7 of a frame, what follows of its pairs: the tracks corrected by their boxes, and those started for the boxes without one.
+// Steps 6 and 7 of a frame, what follows of its pairs: the tracks corrected by their boxes, and those started for the boxes without one, with their labels.
 use assoc::AssignmentAnswer;
 use assoc::AssignmentCounts;
 use assoc::Refusal;
@@ -10,11 +10,12 @@ ghost use Prim.Native.Nat.{_+_, _*_, _/_, _≤_, _<_, _^_};
 ghost use lib.Dec.{leb};
 ghost use lib.ListN.{length, getD};
 ghost use Rattle.laws.specs.Scan.{lowest};
+ghost use Rattle.laws.specs.Splice.{splice};
 ghost use Rattle.boost_tracker_dlo.specs.MhDist.{det};
 ghost use Rattle.boost_tracker_table.specs.Table as Table;
 ghost use Rattle.boost_tracker_table.specs.Table.{tracks, Laying};
 ghost use Rattle.boost_tracker_table.specs.Lent.{tableWith, callWith};
-ghost use Rattle.boost_tracker_definition.specs.Plain.{correctedBy, startedBy};
+ghost use Rattle.boost_tracker_definition.specs.Plain.{correctedBy, startedBy, startedLabels};
 ghost use Rattle.boost_tracker_follow.specs.Corrections as Follow;
 ghost use Rattle.boost_tracker_follow.specs.Corrections.{Listed, inside};
 
@@ -83,6 +84,27 @@ fn start_unmatched(
     }
 }
 
+// The labels of the boxes in a list.
+fn put_labels(box_labels: &[u8], list: &[usize], out: &mut [u8])
+    requires { ⌜ length (now out) ≡ length (now list) ⌝ }
+    ensures { λ _. ⌜ now (out .exit) ≡ startedLabels (now («box_labels» .entry)) (now (list .entry)) ⌝ }
+{
+    let mut k = 0;
+    while k < list.len() {
+        out[k] = labels::label_at(box_labels, list[k]);
+        k += 1;
+    }
+}
+
+// A started track has its box's label, behind the labels of those held.
+fn start_labels(labels: &mut [u8], held: usize, box_labels: &[u8], unmatched: &[usize])
+    requires { ⌜ held + length (now unmatched) ≤ length (now labels) ⌝ }
+    ensures { λ _. ⌜ now (labels .exit) ≡ splice (now (labels .entry)) held (startedLabels (now («box_labels» .entry)) (now (unmatched .entry))) ⌝ }
+{
+    let end = held + unmatched.len();
+    put_labels(box_labels, unmatched, &mut labels[held..end]);
+}
+
 // ---- both
 
 // The first index that is not below n, or the number of indices.
@@ -131,18 +153,21 @@ fn fits(
 pub fn follow(
     floats: &mut [f32],
     counters: &mut [u64],
+    labels: &mut [u8],
     held: usize,
     last: u64,
     corners: &[f32],
+    box_labels: &[u8],
     counts: AssignmentCounts,
     pair_boxes: &[usize],
     pair_tracks: &[usize],
     unmatched: &[usize],
 ) -> AssignmentAnswer
-    ensures { λ r. ⌜ callWith r (tableWith (now (floats .exit)) (now (counters .exit)))
-        ≡ Follow.followed held last (now (corners .entry)) counts (now («pair_boxes» .entry)) (now («pair_tracks» .entry)) (now (unmatched .entry)) (tableWith (now (floats .entry)) (now (counters .entry))) ⌝ }
+    ensures { λ r. ⌜ callWith r (tableWith (now (floats .exit)) (now (counters .exit)) (now (labels .exit)))
+        ≡ Follow.followed held last (now (corners .entry)) (now («box_labels» .entry)) counts (now («pair_boxes» .entry)) (now («pair_tracks» .entry)) (now (unmatched .entry))
+        (tableWith (now (floats .entry)) (now (counters .entry)) (now (labels .entry))) ⌝ }
 {
-    let places = boost_tracker_table::capacity(floats.len(), counters.len());
+    let places = boost_tracker_table::places_in(floats.len(), counters.len(), labels.len());
     if !fits(
         held,
         places,
@@ -170,5 +195,6 @@ pub fn follow(
         &pair_tracks[..pairs],
     );
     start_unmatched(floats, counters, held, last, corners, &unmatched[..started]);
+    start_labels(labels, held, box_labels, &unmatched[..started]);
     AssignmentAnswer::Assigned(counts)
 }

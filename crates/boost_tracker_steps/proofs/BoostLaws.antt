@@ -10,6 +10,8 @@ use lib.Ieee.{Float, nan}
 use borrow.Author.Tests.{le-ltb, eq-eqb}
 use Rattle.laws.specs.Packed.{packed}
 use Rattle.laws.specs.Grid.{grid, cellAt}
+use Rattle.labels.specs.Label.{whereAlike}
+use Rattle.floats.specs.Single.{plusZero}
 use Rattle.strack.specs.Strack.{getKfState, getKfCovarianceDiag}
 use Rattle.refusals.specs.declared.refusal.Verdict.{Verdict}
 use Rattle.refusals.specs.declared.refusal.Refusal.{Refusal}
@@ -79,47 +81,47 @@ dlo-accepted held floats counters corners trks confs work scores w =
     )
 
 -- without the rich similarity the distances are not looked at
-poor : (q : DloSettings) → q .rich ≡ false → (corners trks confs : List Float) (f g : ℕ → ℕ → Float) (since : ℕ → ℕ) (boxes held : ℕ) (scores : List Float)
-    → dloConfidenceBoost q corners trks confs f since boxes held scores ≡ dloConfidenceBoost q corners trks confs g since boxes held scores
+poor : (like : ℕ → ℕ → Bool) (q : DloSettings) → q .rich ≡ false → (corners trks confs : List Float) (f g : ℕ → ℕ → Float) (since : ℕ → ℕ) (boxes held : ℕ) (scores : List Float)
+    → dloConfidenceBoost like q corners trks confs f since boxes held scores ≡ dloConfidenceBoost like q corners trks confs g since boxes held scores
 unfolding dloConfidenceBoost similarity
-poor q h corners trks confs f g since boxes held scores =
-    ap (λ (cell : ℕ → ℕ → Float). cond (eqb held 0 || eqb boxes 0) scores (boosted q cell since boxes held scores))
+poor like q h corners trks confs f g since boxes held scores =
+    ap (λ (cell : ℕ → ℕ → Float). cond (eqb held 0 || eqb boxes 0) scores (boosted q (whereAlike like cell plusZero) since boxes held scores))
     (fun-ext {f = similarity q corners trks confs f boxes} {g = similarity q corners trks confs g boxes} (λ i. fun-ext (λ j. rw h)))
 
-module _ (self : Settings) (corners trks confs : List Float) (cell : ℕ → ℕ → Float) (since : ℕ → ℕ) (boxes held : ℕ) (work scores : List Float) where
+module _ (like : ℕ → ℕ → Bool) (self : Settings) (corners trks confs : List Float) (cell : ℕ → ℕ → Float) (since : ℕ → ℕ) (boxes held : ℕ) (work scores : List Float) where
   rich-or-poor : {work′ : List Float} → work′ ≡ cond (self .«use_rich_similarity») (grid cell boxes held work) work
-      → dloConfidenceBoost (dloSettings self) corners trks confs (cellAt nan held work′) since boxes held scores ≡ dloConfidenceBoost (dloSettings self) corners trks confs cell since boxes held scores
+      → dloConfidenceBoost like (dloSettings self) corners trks confs (cellAt nan held work′) since boxes held scores ≡ dloConfidenceBoost like (dloSettings self) corners trks confs cell since boxes held scores
   rich-or-poor {work′} e = by-cases (self .«use_rich_similarity») refl
     where
       by-cases : (b : Bool) → self .«use_rich_similarity» ≡ b
-          → dloConfidenceBoost (dloSettings self) corners trks confs (cellAt nan held work′) since boxes held scores ≡ dloConfidenceBoost (dloSettings self) corners trks confs cell since boxes held scores
-      by-cases true h = let stored : work′ ≡ grid cell boxes held work = rw h at e in rw stored (dlo-over (dloSettings self) corners trks confs cell work since boxes held scores)
-      by-cases false h = poor (dloSettings self) h corners trks confs (cellAt nan held work′) cell since boxes held scores
+          → dloConfidenceBoost like (dloSettings self) corners trks confs (cellAt nan held work′) since boxes held scores ≡ dloConfidenceBoost like (dloSettings self) corners trks confs cell since boxes held scores
+      by-cases true h = let stored : work′ ≡ grid cell boxes held work = rw h at e in rw stored (dlo-over like (dloSettings self) corners trks confs cell work since boxes held scores)
+      by-cases false h = poor like (dloSettings self) h corners trks confs (cellAt nan held work′) cell since boxes held scores
 
-module _ (self : Settings) (corners trks confs : List Float) (ts : List Track) (held : ℕ) (many : length ts ≡ held) (work scores : List Float) where
+module _ (like : ℕ → ℕ → Bool) (self : Settings) (corners trks confs : List Float) (ts : List Track) (held : ℕ) (many : length ts ≡ held) (work scores : List Float) where
   pub dlo-is : {floats counters : ℕ} {times : List ℕ} {work′ scores′ : List Float} {q : DloSettings} {v r : Verdict} → Scored held floats counters (length corners) (length trks) (length confs) (length work) (length scores)
       → q ≡ dloSettings self → times ≡ sinceOf ts → length times ≡ held
       → callWith v work′ ≡ accepted (cond (self .«use_rich_similarity») (grid (getMhDistMatrix corners (trackerAt ts)) (length scores) held work) work) → length work′ ≡ length work
       → r ≡ ofDlo (length scores) held (length corners) (length trks) (length confs) (length times) (length work′) (length scores)
-      → scores′ ≡ boostedBy r (dloConfidenceBoost q corners trks confs (cellAt nan held work′) (λ j. getD times j 0) (length scores) held scores) scores
-      → callWith r scores′ ≡ accepted (dlo self corners trks confs ts scores)
+      → scores′ ≡ boostedBy r (dloConfidenceBoost like q corners trks confs (cellAt nan held work′) (λ j. getD times j 0) (length scores) held scores) scores
+      → callWith r scores′ ≡ accepted (dlo like self corners trks confs ts scores)
   unfolding dlo
   dlo-is {floats} {counters} {times} {work′} {scores′} {q} {v} {r} w eq et lt ew lw er es =
       let a : r ≡ Accepted = er ∙ rw (lt, lw) (dlo-accepted held floats counters (length corners) (length trks) (length confs) (length work) (length scores) w) in
-      let stored : scores′ ≡ dloConfidenceBoost q corners trks confs (cellAt nan held work′) (λ j. getD times j 0) (length scores) held scores =
-      es ∙ ap (λ (v : Verdict). boostedBy v (dloConfidenceBoost q corners trks confs (cellAt nan held work′) (λ j. getD times j 0) (length scores) held scores) scores) a in
+      let stored : scores′ ≡ dloConfidenceBoost like q corners trks confs (cellAt nan held work′) (λ j. getD times j 0) (length scores) held scores =
+      es ∙ ap (λ (v : Verdict). boostedBy v (dloConfidenceBoost like q corners trks confs (cellAt nan held work′) (λ j. getD times j 0) (length scores) held scores) scores) a in
       let times-are : _≡_ {A = ℕ → ℕ} (λ j. getD times j 0) (λ j. trackerAt ts j .since) = fun-ext (λ j. ap (λ (l : List ℕ). getD l j 0) et ∙ since-at ts j) in
-      let boosts : scores′ ≡ dlo self corners trks confs ts scores =
-      stored ∙ rw (eq, times-are, many) (rich-or-poor self corners trks confs (getMhDistMatrix corners (trackerAt ts)) (λ j. trackerAt ts j .since) (length scores) held work scores (ap left ew)) in
+      let boosts : scores′ ≡ dlo like self corners trks confs ts scores =
+      stored ∙ rw (eq, times-are, many) (rich-or-poor like self corners trks confs (getMhDistMatrix corners (trackerAt ts)) (λ j. trackerAt ts j .since) (length scores) held work scores (ap left ew)) in
       rw (a, boosts)
 
   -- the test, and where it fails
-  pub dlo-done : {r : Verdict} {scores′ : List Float} → (self .«use_dlo_boost» && ltb 0 held) ≡ true → callWith r scores′ ≡ accepted (dlo self corners trks confs ts scores)
-      → callWith r scores′ ≡ accepted (afterDlo self corners trks confs ts scores)
+  pub dlo-done : {r : Verdict} {scores′ : List Float} → (self .«use_dlo_boost» && ltb 0 held) ≡ true → callWith r scores′ ≡ accepted (dlo like self corners trks confs ts scores)
+      → callWith r scores′ ≡ accepted (afterDlo like self corners trks confs ts scores)
   unfolding afterDlo
   dlo-done h e = rw (many, h) e
 
-  pub dlo-left : (self .«use_dlo_boost» && ltb 0 held) ≡ false → accepted scores ≡ accepted (afterDlo self corners trks confs ts scores)
+  pub dlo-left : (self .«use_dlo_boost» && ltb 0 held) ≡ false → accepted scores ≡ accepted (afterDlo like self corners trks confs ts scores)
   unfolding afterDlo
   dlo-left h = rw (many, h)
 
@@ -151,7 +153,7 @@ module _ (self : Settings) (frame : ℕ) (corners : List Float) (ts : List Track
 -- ---- both
 
 -- DUO of the scores that DLO left
-pub boosts-are : (self : Settings) (frame : ℕ) (corners trks confs : List Float) (ts : List Track) (scores : List Float) {scores₁ scores₂ : List Float} {v r : Verdict}
-    → callWith v scores₁ ≡ accepted (afterDlo self corners trks confs ts scores) → callWith r scores₂ ≡ accepted (afterDuo self frame corners ts scores₁)
-    → callWith r scores₂ ≡ accepted (afterDuo self frame corners ts (afterDlo self corners trks confs ts scores))
-boosts-are self frame corners trks confs ts scores d w = w ∙ ap (λ (l : List Float). accepted (afterDuo self frame corners ts l)) (ap left d)
+pub boosts-are : (like : ℕ → ℕ → Bool) (self : Settings) (frame : ℕ) (corners trks confs : List Float) (ts : List Track) (scores : List Float) {scores₁ scores₂ : List Float} {v r : Verdict}
+    → callWith v scores₁ ≡ accepted (afterDlo like self corners trks confs ts scores) → callWith r scores₂ ≡ accepted (afterDuo self frame corners ts scores₁)
+    → callWith r scores₂ ≡ accepted (afterDuo self frame corners ts (afterDlo like self corners trks confs ts scores))
+boosts-are like self frame corners trks confs ts scores d w = w ∙ ap (λ (l : List Float). accepted (afterDuo self frame corners ts l)) (ap left d)

@@ -10,11 +10,10 @@ use lib.ListN.{length, take}
 use lib.Ieee.{Float}
 use Rattle.laws.specs.Grid.{grid, grid-front}
 use Rattle.refusals.specs.declared.refusal.Refusal.{Refusal}
-use Rattle.refusals.specs.declared.refusal.Refusal.the-variants.{TooMany, OtherSize, TooShort}
 use Rattle.refusals.specs.declared.refusal.Verdict.{Verdict}
 use Rattle.refusals.specs.declared.refusal.Verdict.the-variants as verdict
 use Rattle.assoc.specs.declared.cost.AssociateParams.{AssociateParams}
-use Rattle.refusals.specs.Refusal.{number}
+use Rattle.refusals.proofs.Laws.{number-some}
 use Rattle.assoc_assignment.specs.declared.assignment.AssignmentCounts.{AssignmentCounts}
 use Rattle.assoc_assignment.specs.declared.assignment.AssignmentAnswer.{AssignmentAnswer}
 use Rattle.assoc_assignment.specs.declared.assignment.AssignmentAnswer.the-variants.{Assigned, Refused}
@@ -30,7 +29,7 @@ use Rattle.boost_tracker_table.specs.declared.settings.Settings.{Settings}
 use Rattle.boost_tracker_table.specs.Table.{Track}
 use Rattle.boost_tracker_table.specs.Lent.{Call, callWith}
 use Rattle.boost_tracker_definition.specs.Update.{trackerAt, params, mhDist, result}
-use Rattle.boost_tracker_steps.specs.Private.{accepted, Distant, Sized}
+use Rattle.boost_tracker_steps.specs.Private.{accepted, Distant, Sized, paired}
 
 -- ---- the verdicts
 
@@ -92,17 +91,12 @@ sizes-accepted params held corners trks confs scores pairBoxes pairTracks unmatc
 assigned-is : {r : AssignmentAnswer} {q : AssignmentCounts} {l l′ : Lent} → Answers.callWith r l ≡ Answers.callWith (Assigned q) l′ → callWith r l ≡ callWith (Assigned q) l′
 assigned-is {r} {q} {l} {l′} w = by-cases r (ap (λ (k : Matching.Call AssignmentCounts Lent). k .number) w) (ap (λ (k : Matching.Call AssignmentCounts Lent). k .counts) w)
   where
-    above : (why : Refusal) → number why ≡ 0 → ⊥
-    above TooMany e = omega arith
-    above OtherSize e = omega arith
-    above TooShort e = omega arith
-
     same : l ≡ l′
     same = ap (λ (k : Matching.Call AssignmentCounts Lent). k .lent) w
 
     by-cases : (a : AssignmentAnswer) → assignmentNumber a ≡ 0 → assignmentValues a ≡ q → callWith a l ≡ callWith (Assigned q) l′
     by-cases (Assigned counts) n e = ap (λ (k : AssignmentCounts). callWith (Assigned k) l) e ∙ ap (λ (k : Lent). callWith (Assigned q) k) same
-    by-cases (Refused why) n e = absurd (above why n)
+    by-cases (Refused why) n e = absurd (number-some why n)
 
 pub never-unpaired : {L : Type 0} {r : AssignmentAnswer} {q : AssignmentCounts} {why : Refusal} {l l′ : L} → callWith r l ≡ callWith (Assigned q) l′ → r ≡ Refused why → ⊥
 never-unpaired {L} {r} {q} {why} w e =
@@ -113,15 +107,15 @@ never-unpaired {L} {r} {q} {why} w e =
 -- ---- what the call leaves
 
 -- what steps 4 and 5 answer and leave: the counts of the association, its lists over the fronts, and zeros in the work slices
-unfoldable pub pairedCall : Settings → List Float → List Float → List Float → List Float → List Track → Lent → Call AssignmentAnswer Lent
-pairedCall self boxes probs ts cs trackers l =
-    let a : Assignment = result self boxes probs trackers ts cs in
+unfoldable pub pairedCall : Settings → List Float → List Float → List Float → List Float → List ℕ → List Track → List ℕ → Lent → Call AssignmentAnswer Lent
+pairedCall self boxes probs ts cs boxLabels trackers labels l =
+    let a : Assignment = paired self boxes probs ts cs boxLabels trackers labels in
     callWith (Assigned (assignmentCounts a)) (lentAfter a l)
 
-module _ (self : Settings) (corners probs ts cs : List Float) (trackers : List Track) (held : ℕ) (many : length trackers ≡ held) where
+module _ (self : Settings) (corners probs ts cs : List Float) (boxLabels : List ℕ) (trackers : List Track) (labels : List ℕ) (held : ℕ) (many : length trackers ≡ held) where
   -- the association with the distances in the front of the work slice
   result-is : (work : List Float) {work′ : List Float} → work′ ≡ grid (getMhDistMatrix corners (trackerAt trackers)) (length probs) held work
-      → associate (params self (length probs) held) (length probs) held corners ts (take (length probs * held) work′) cs probs ≡ result self corners probs trackers ts cs
+      → associate (params self (length probs) held) (length probs) held corners ts (take (length probs * held) work′) cs probs boxLabels labels ≡ paired self corners probs ts cs boxLabels trackers labels
   unfolding result mhDist
   result-is work e = rw (many, e, grid-front (getMhDistMatrix corners (trackerAt trackers)) (length probs) held work)
 
@@ -129,21 +123,21 @@ module _ (self : Settings) (corners probs ts cs : List Float) (trackers : List T
       → Sized held (length corners) (length ts) (length cs) (length probs) (length work64) (length work32)
       → ListRoom (length probs) held (length (lists .pairBoxes)) (length (lists .pairTracks)) (length (lists .unmatchedDetections)) (length (lists .unmatchedTracks))
       → callWith v work32₁ ≡ accepted (grid (getMhDistMatrix corners (trackerAt trackers)) (length probs) held work32) → length work32₁ ≡ length work32 → q ≡ params self (length probs) held
-      → Answers.callWith r l′ ≡ withinCall q (length probs) held corners ts cs probs (record { lists = lists; work64 = work64; work32 = work32₁ })
-      → callWith r l′ ≡ pairedCall self corners probs ts cs trackers (record { lists = lists; work64 = work64; work32 = work32 })
+      → Answers.callWith r l′ ≡ withinCall q (length probs) held corners ts cs probs boxLabels labels (record { lists = lists; work64 = work64; work32 = work32₁ })
+      → callWith r l′ ≡ pairedCall self corners probs ts cs boxLabels trackers labels (record { lists = lists; work64 = work64; work32 = work32 })
   unfolding pairedCall
   pair-is lists work64 work32 {work32₁} {v} {q} {r} {l′} s room d same eq w =
       let p : AssociateParams = params self (length probs) held in
       let l : Lent = record { lists = lists; work64 = work64; work32 = work32₁ } in
-      let a : Assignment = associate p (length probs) held corners ts (take (length probs * held) work32₁) cs probs in
+      let a : Assignment = associate p (length probs) held corners ts (take (length probs * held) work32₁) cs probs boxLabels labels in
       let fit : withinVerdict p (length probs) held (length corners) (length ts) (length cs) (length probs) (roomOf lists) (length work64) (length work32₁) ≡ verdict.Accepted =
       rw same (sizes-accepted p held (length corners) (length ts) (length cs) (length probs) _ _ _ _ (length work64) (length work32) s room) in
-      let call : Answers.callWith r l′ ≡ Answers.callWith (Assigned (assignmentCounts a)) (lentAfter a l) = (rw eq at w) ∙ sym (within-accepted p (length probs) held corners ts cs probs l fit) in
+      let call : Answers.callWith r l′ ≡ Answers.callWith (Assigned (assignmentCounts a)) (lentAfter a l) = (rw eq at w) ∙ sym (within-accepted p (length probs) held corners ts cs probs boxLabels labels l fit) in
       let stored = ap (λ (k : Call Verdict (List Float)). k .lent) d in
       assigned-is (rw (result-is work32 stored, same) at call)
 
 -- the counts of the association, as the call answers them
-pub paired-answer : (self : Settings) (corners probs ts cs : List Float) (trackers : List Track) (l : Lent) → pairedCall self corners probs ts cs trackers l
-    ≡ callWith (Assigned (assignmentCounts (result self corners probs trackers ts cs))) (lentAfter (result self corners probs trackers ts cs) l)
+pub paired-answer : (self : Settings) (corners probs ts cs : List Float) (boxLabels : List ℕ) (trackers : List Track) (labels : List ℕ) (l : Lent) → pairedCall self corners probs ts cs boxLabels trackers labels l
+    ≡ callWith (Assigned (assignmentCounts (paired self corners probs ts cs boxLabels trackers labels))) (lentAfter (paired self corners probs ts cs boxLabels trackers labels) l)
 unfolding pairedCall
-paired-answer self corners probs ts cs trackers l = refl
+paired-answer self corners probs ts cs boxLabels trackers labels l = refl

@@ -1,10 +1,11 @@
 -- What only the contracts between private functions cite: sizes that they ask for, and what a step leaves.
 use mathlib.Core.Path.{_≡_}
-use mathlib.Core.List.{List, [], _∷_, map}
+use mathlib.Core.List.{List, [], _∷_, _++_, map}
 use Prim.Native.Nat.{ℕ, _+_, _*_, _≤_, _<_, _^_, max}
 use lib.ListN.{length, take}
 use lib.Ieee.{Float}
 use Rattle.laws.specs.Laid.{laid}
+use Rattle.labels.specs.Label.{sameLabel}
 use Rattle.strack.specs.Strack.{getState, getKfState, getKfCovarianceDiag}
 use Rattle.boost_tracker_dlo.specs.MhDist.{row, reciprocals}
 use Rattle.refusals.specs.declared.refusal.Verdict.{Verdict}
@@ -14,14 +15,17 @@ use Rattle.assoc_assignment.specs.declared.assignment.AssignmentAnswer.the-vari
 use Rattle.assoc_matching.specs.Answers.{zeroed}
 use Rattle.assoc_assignment.specs.Answers.{assignmentCounts}
 use Rattle.assoc.specs.Answers.{cleared}
+use Rattle.assoc_assignment.specs.Assignment.{Assignment}
 use Rattle.boost_tracker_table.specs.declared.settings.Settings.{Settings}
-use Rattle.boost_tracker_table.specs.Table.{Track, capacity}
-use Rattle.boost_tracker_table.specs.Lent.{tracksIn, laidOver, Call, callWith}
+use Rattle.boost_tracker_table.specs.Table.{Track, capacity, placesIn}
+use Rattle.boost_tracker_table.specs.Lent.{tracksIn, labelsIn, laidOver, Call, callWith}
+use Rattle.boost_tracker_verdict.specs.Boxes.{Boxes}
+use Rattle.boost_tracker_definition.specs.Plain.{startedLabels}
 use Rattle.boost_tracker_steps.specs.AllSteps.{Lent, lentAfter}
 use Rattle.boost_tracker_steps.specs.declared.gather.Four.{Four}
 use Rattle.boost_tracker_steps.specs.declared.gather.RowOf.{RowOf}
 use Rattle.boost_tracker_steps.specs.declared.gather.RowOf.the-variants as row-of
-use Rattle.boost_tracker_definition.specs.Update.{cornersOf, xyxyOf, trackerAt, bboxes, scores, trks, confs, remainInds, detBboxes, detScores, result, matched, Started, startedFrom, started, Stages}
+use Rattle.boost_tracker_definition.specs.Update.{cornersOf, xyxyOf, trackerAt, bboxes, scores, trks, confs, remainInds, detBboxes, detScores, detLabels, result, matched, Started, startedFrom, started, Stages, steps, labelsStarted}
 
 -- what a stage leaves that accepts its sizes
 abbrev pub accepted : {L : Type 0} → L → Call Verdict L
@@ -78,9 +82,10 @@ pub record KeptBoxes (thresh : Float) (objects probs corners₀ corners : List F
   pub count : w ≡ length (remainInds thresh probs)
   pub cells : corners ≡ laid (λ i. cornersOf (xyxyOf objects i)) 4 (remainInds thresh probs) corners₀
 
-pub record Retained (thresh : Float) (objects probs₀ probs corners : List Float) (kept : ℕ) : Type 0 where
+pub record Retained (thresh : Float) (objects probs₀ : List Float) (boxLabels : List ℕ) (probs corners : List Float) (labels : List ℕ) (kept : ℕ) : Type 0 where
   pub corners-are : take (kept * 4) corners ≡ detBboxes objects (remainInds thresh probs₀)
   pub scores-are : take kept probs ≡ detScores probs₀ (remainInds thresh probs₀)
+  pub labels-are : take kept labels ≡ detLabels boxLabels (remainInds thresh probs₀)
   pub few : kept ≤ length probs₀
 
 -- ---- the association
@@ -98,32 +103,47 @@ pub record Sized (held corners trks confs scores work64 work32 : ℕ) : Type 0 w
 -- ---- corrected and started tracks
 
 -- a place and an id for every box
-pub record StartRoom (held boxes last floats counters : ℕ) : Type 0 where
-  pub room : held + boxes ≤ capacity floats counters
+pub record StartRoom (held boxes last floats counters labels : ℕ) : Type 0 where
+  pub room : held + boxes ≤ placesIn floats counters labels
   pub ids-fit : last + 255 < 2 ^ 64
 
--- all trackers after step 7, and the last id
-abbrev pub allStarted : Settings → ℕ → List Float → List Float → List Float → List Float → List Track → Started
-allStarted self last boxes probs ts cs trackers =
-    started (self .«det_thresh») boxes probs (result self boxes probs trackers ts cs .unmatchedDetections)
-    (startedFrom last (matched boxes (result self boxes probs trackers ts cs .matches) trackers))
+-- the pairs, by 02's rule
+abbrev pub paired : Settings → List Float → List Float → List Float → List Float → List ℕ → List Track → List ℕ → Assignment
+paired self boxes probs ts cs boxLabels trackers labels = result sameLabel self boxes probs trackers ts cs boxLabels labels
 
--- what steps 4 to 7 answer and leave: the counts of the association, and all trackers over the front of the table
-unfoldable pub settledCall : Settings → ℕ → List Float → List Float → List Float → List Float → ℕ → Lent → Call AssignmentAnswer Lent
-settledCall self last boxes probs ts cs held l =
+-- all trackers after step 7, and the last id
+abbrev pub allStarted : Settings → ℕ → List Float → List Float → List Float → List Float → List ℕ → List Track → List ℕ → Started
+allStarted self last boxes probs ts cs boxLabels trackers labels =
+    started (self .«det_thresh») boxes probs (paired self boxes probs ts cs boxLabels trackers labels .unmatchedDetections)
+    (startedFrom last (matched boxes (paired self boxes probs ts cs boxLabels trackers labels .matches) trackers))
+
+-- what steps 4 to 7 answer and leave: the counts of the association, and all trackers with their labels over the front of the table
+unfoldable pub settledCall : Settings → ℕ → List Float → List Float → List Float → List Float → List ℕ → ℕ → Lent → Call AssignmentAnswer Lent
+settledCall self last boxes probs ts cs boxLabels held l =
     let trackers : List Track = tracksIn (l .table) held in
-    callWith (Assigned (assignmentCounts (result self boxes probs trackers ts cs)))
-    (record { table = laidOver (allStarted self last boxes probs ts cs trackers .trackers) (l .table); work64 = zeroed (l .work64); work32 = cleared (l .work32) })
+    let labels : List ℕ = labelsIn (l .table) held in
+    let found : Assignment = paired self boxes probs ts cs boxLabels trackers labels in
+    callWith (Assigned (assignmentCounts found))
+    (record {
+      table = laidOver (allStarted self last boxes probs ts cs boxLabels trackers labels .trackers) (labels ++ startedLabels boxLabels (found .unmatchedDetections)) (l .table);
+      work64 = zeroed (l .work64);
+      work32 = cleared (l .work32);
+    })
 
 -- ---- a frame
 
-pub record TrackRoom (held n last floats counters work64 work32 : ℕ) : Type 0 where
+pub record TrackRoom (held n last floats counters labels work64 work32 : ℕ) : Type 0 where
   pub few-boxes : n ≤ 255
-  pub room : held + n ≤ capacity floats counters
+  pub room : held + n ≤ placesIn floats counters labels
   pub ids-fit : last + 255 < 2 ^ 64
   pub doubles : max held n * max held n ≤ work64
   pub singles : 4 * (max held n * max held n) ≤ work32
 
 -- what steps 1 to 7 answer and leave
-unfoldable pub stagesCall : Stages → Lent → Call AssignmentAnswer Lent
-stagesCall g l = callWith (Assigned (assignmentCounts (g .result))) (lentAfter g l)
+unfoldable pub stagesCall : List ℕ → List ℕ → Stages → Lent → Call AssignmentAnswer Lent
+stagesCall boxLabels labels g l = callWith (Assigned (assignmentCounts (g .result))) (lentAfter g (labelsStarted boxLabels labels g) l)
+
+-- of the predicted tracks in the table
+abbrev pub trackedCall : Settings → ℕ → ℕ → Boxes → ℕ → Lent → Call AssignmentAnswer Lent
+trackedCall self frame last boxes held l =
+    stagesCall (boxes .labels) (labelsIn (l .table) held) (steps sameLabel self frame last boxes (tracksIn (l .table) held) (labelsIn (l .table) held)) l

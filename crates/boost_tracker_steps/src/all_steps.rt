@@ -15,9 +15,9 @@ ghost use Prim.Native.Nat.{_+_, _*_};
 ghost use lib.ListN.{length};
 ghost use Rattle.boost_tracker_table.specs.Table.{tracks};
 ghost use Rattle.boost_tracker_table.specs.Lent.{callWith};
+ghost use Rattle.boost_tracker_verdict.specs.Boxes.{boxesWith};
 ghost use Rattle.boost_tracker_verdict.specs.Verdict.{boxesIn};
-ghost use Rattle.boost_tracker_definition.specs.Update.{steps};
-ghost use Rattle.boost_tracker_steps.specs.Private.{LocalRoom, TrackRoom, SinceLow, stagesCall};
+ghost use Rattle.boost_tracker_steps.specs.Private.{LocalRoom, TrackRoom, SinceLow, trackedCall};
 ghost use Rattle.boost_tracker_steps.specs.AllSteps.{refusedAdvance, lentWith, advanced};
 
 // The counts are 0 where the frame is refused.
@@ -36,20 +36,23 @@ fn track_with(
     held: usize,
     floats: &mut [f32],
     counters: &mut [u64],
+    labels: &mut [u8],
     objects: &[f32],
+    box_labels: &[u8],
     corners: &mut [f32],
     scores: &mut [f32],
+    kept_labels: &mut [u8],
     trks: &mut [f32],
     confs: &mut [f32],
     work64: &mut [f64],
     work32: &mut [f32],
 ) -> AssignmentAnswer
-    requires sizes { ⌜ TrackRoom held (boxesIn (now objects)) last (length (now floats)) (length (now counters)) (length (now work64)) (length (now work32)) ⌝ }
+    requires sizes { ⌜ TrackRoom held (boxesIn (now objects)) last (length (now floats)) (length (now counters)) (length (now labels)) (length (now work64)) (length (now work32)) ⌝ }
     requires low { ⌜ SinceLow held (tracks (now floats) (now counters) held) ⌝ }
-    requires lent { ⌜ LocalRoom held (boxesIn (now objects)) (length (now corners)) (length (now scores)) (length (now trks)) (length (now confs)) ⌝ }
-    ensures { λ r. ⌜ callWith r (lentWith (now (floats .exit)) (now (counters .exit)) (now (work64 .exit)) (now (work32 .exit)))
-        ≡ stagesCall (steps settings frame last (now (objects .entry)) (tracks (now (floats .entry)) (now (counters .entry)) held))
-        (lentWith (now (floats .entry)) (now (counters .entry)) (now (work64 .entry)) (now (work32 .entry))) ⌝ }
+    requires lent { ⌜ LocalRoom held (boxesIn (now objects)) (length (now corners)) (length (now scores)) (length (now trks)) (length (now confs)) × (length (now «kept_labels») ≡ boxesIn (now objects)) ⌝ }
+    ensures { λ r. ⌜ callWith r (lentWith (now (floats .exit)) (now (counters .exit)) (now (labels .exit)) (now (work64 .exit)) (now (work32 .exit)))
+        ≡ trackedCall settings frame last (boxesWith (now (objects .entry)) (now («box_labels» .entry))) held
+        (lentWith (now (floats .entry)) (now (counters .entry)) (now (labels .entry)) (now (work64 .entry)) (now (work32 .entry))) ⌝ }
 {
     gather(
         floats,
@@ -70,13 +73,22 @@ fn track_with(
         corners,
         trks,
         confs,
+        box_labels,
+        &labels[..held],
         work32,
         scores,
     );
     let assoc::Verdict::Accepted = boosted else {
         return refused_by(boosted);
     };
-    let kept = retain(settings.det_thresh, objects, scores, corners);
+    let kept = retain(
+        settings.det_thresh,
+        objects,
+        box_labels,
+        scores,
+        corners,
+        kept_labels,
+    );
     let end = kept * 4;
     settle(
         settings,
@@ -84,10 +96,12 @@ fn track_with(
         held,
         floats,
         counters,
+        labels,
         &corners[..end],
         trks,
         confs,
         &scores[..kept],
+        &kept_labels[..kept],
         work64,
         work32,
     )
@@ -101,19 +115,22 @@ fn track(
     held: usize,
     floats: &mut [f32],
     counters: &mut [u64],
+    labels: &mut [u8],
     objects: &[f32],
+    box_labels: &[u8],
     work64: &mut [f64],
     work32: &mut [f32],
 ) -> AssignmentAnswer
-    requires sizes { ⌜ TrackRoom held (boxesIn (now objects)) last (length (now floats)) (length (now counters)) (length (now work64)) (length (now work32)) ⌝ }
+    requires sizes { ⌜ TrackRoom held (boxesIn (now objects)) last (length (now floats)) (length (now counters)) (length (now labels)) (length (now work64)) (length (now work32)) ⌝ }
     requires low { ⌜ SinceLow held (tracks (now floats) (now counters) held) ⌝ }
-    ensures { λ r. ⌜ callWith r (lentWith (now (floats .exit)) (now (counters .exit)) (now (work64 .exit)) (now (work32 .exit)))
-        ≡ stagesCall (steps settings frame last (now (objects .entry)) (tracks (now (floats .entry)) (now (counters .entry)) held))
-        (lentWith (now (floats .entry)) (now (counters .entry)) (now (work64 .entry)) (now (work32 .entry))) ⌝ }
+    ensures { λ r. ⌜ callWith r (lentWith (now (floats .exit)) (now (counters .exit)) (now (labels .exit)) (now (work64 .exit)) (now (work32 .exit)))
+        ≡ trackedCall settings frame last (boxesWith (now (objects .entry)) (now («box_labels» .entry))) held
+        (lentWith (now (floats .entry)) (now (counters .entry)) (now (labels .entry)) (now (work64 .entry)) (now (work32 .entry))) ⌝ }
 {
     let n = objects.len() / BOX_VALUES;
     let mut corners = [0.0f32; 1020];
     let mut scores = [0.0f32; 255];
+    let mut kept_labels = [0u8; 255];
     let mut trks = [0.0f32; 1020];
     let mut confs = [0.0f32; 255];
     let of_boxes = n * 4;
@@ -125,9 +142,12 @@ fn track(
         held,
         floats,
         counters,
+        labels,
         objects,
+        box_labels,
         &mut corners[..of_boxes],
         &mut scores[..n],
+        &mut kept_labels[..n],
         &mut trks[..of_tracks],
         &mut confs[..held],
         work64,
@@ -152,20 +172,25 @@ pub fn advance(
     state: State,
     floats: &mut [f32],
     counters: &mut [u64],
+    labels: &mut [u8],
     boxes: &[f32],
+    box_labels: &[u8],
     room: usize,
     work64: &mut [f64],
     work32: &mut [f32],
 ) -> Advanced
-    ensures { λ r. ⌜ callWith r (lentWith (now (floats .exit)) (now (counters .exit)) (now (work64 .exit)) (now (work32 .exit)))
-        ≡ advanced settings state (now (boxes .entry)) room (lentWith (now (floats .entry)) (now (counters .entry)) (now (work64 .entry)) (now (work32 .entry))) ⌝ }
+    ensures { λ r. ⌜ callWith r (lentWith (now (floats .exit)) (now (counters .exit)) (now (labels .exit)) (now (work64 .exit)) (now (work32 .exit)))
+        ≡ advanced settings state (boxesWith (now (boxes .entry)) (now («box_labels» .entry))) room
+        (lentWith (now (floats .entry)) (now (counters .entry)) (now (labels .entry)) (now (work64 .entry)) (now (work32 .entry))) ⌝ }
 {
     let verdict = boost_tracker_verdict::frame_verdict(
         settings,
         state,
         floats,
         counters,
+        labels,
         boxes,
+        box_labels,
         room,
         work64.len(),
         work32.len(),
@@ -184,7 +209,9 @@ pub fn advance(
         held,
         floats,
         counters,
+        labels,
         boxes,
+        box_labels,
         work64,
         work32,
     );

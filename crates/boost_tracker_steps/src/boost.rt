@@ -13,6 +13,7 @@ ghost use mathlib.Core.Bool.{cond};
 ghost use Prim.Native.Nat.{_*_, _≤_};
 ghost use lib.ListN.{length};
 ghost use Rattle.laws.specs.Grid.{grid};
+ghost use Rattle.labels.specs.Label.{sameLabel, alike};
 ghost use Rattle.boost_tracker_dlo.specs.MhDist.{getMhDistMatrix};
 ghost use Rattle.boost_tracker_table.specs.Table.{capacity, tracks};
 ghost use Rattle.boost_tracker_table.specs.Lent.{callWith};
@@ -93,6 +94,8 @@ fn dlo_with(
     corners: &[f32],
     trks: &[f32],
     confs: &[f32],
+    box_labels: &[u8],
+    track_labels: &[u8],
     times: &mut [u32],
     work: &mut [f32],
     scores: &mut [f32],
@@ -101,7 +104,7 @@ fn dlo_with(
     requires low { ⌜ SinceLow held (tracks (now floats) (now counters) held) ⌝ }
     requires room { ⌜ length (now times) ≡ held ⌝ }
     ensures { λ r. ⌜ callWith r (now (scores .exit))
-        ≡ accepted (Update.afterDlo settings (now (corners .entry)) (now (trks .entry)) (now (confs .entry)) (tracks (now (floats .entry)) (now (counters .entry)) held) (now (scores .entry))) ⌝ }
+        ≡ accepted (Update.afterDlo (alike sameLabel (now («box_labels» .entry)) (now («track_labels» .entry))) settings (now (corners .entry)) (now (trks .entry)) (now (confs .entry)) (tracks (now (floats .entry)) (now (counters .entry)) held) (now (scores .entry))) ⌝ }
 {
     if settings.use_dlo_boost & (held > 0) {
         let boxes = scores.len();
@@ -119,6 +122,8 @@ fn dlo_with(
             trks,
             confs,
             times,
+            box_labels,
+            track_labels,
             work,
             scores,
         );
@@ -135,13 +140,15 @@ fn dlo(
     corners: &[f32],
     trks: &[f32],
     confs: &[f32],
+    box_labels: &[u8],
+    track_labels: &[u8],
     work: &mut [f32],
     scores: &mut [f32],
 ) -> Verdict
     requires sizes { ⌜ Scored held (length (now floats)) (length (now counters)) (length (now corners)) (length (now trks)) (length (now confs)) (length (now work)) (length (now scores)) ⌝ }
     requires low { ⌜ SinceLow held (tracks (now floats) (now counters) held) ⌝ }
     ensures { λ r. ⌜ callWith r (now (scores .exit))
-        ≡ accepted (Update.afterDlo settings (now (corners .entry)) (now (trks .entry)) (now (confs .entry)) (tracks (now (floats .entry)) (now (counters .entry)) held) (now (scores .entry))) ⌝ }
+        ≡ accepted (Update.afterDlo (alike sameLabel (now («box_labels» .entry)) (now («track_labels» .entry))) settings (now (corners .entry)) (now (trks .entry)) (now (confs .entry)) (tracks (now (floats .entry)) (now (counters .entry)) held) (now (scores .entry))) ⌝ }
 {
     let mut times = [0u32; 255];
     dlo_with(
@@ -152,6 +159,8 @@ fn dlo(
         corners,
         trks,
         confs,
+        box_labels,
+        track_labels,
         &mut times[..held],
         work,
         scores,
@@ -201,6 +210,8 @@ pub(crate) fn boost(
     corners: &[f32],
     trks: &[f32],
     confs: &[f32],
+    box_labels: &[u8],
+    track_labels: &[u8],
     work: &mut [f32],
     scores: &mut [f32],
 ) -> Verdict
@@ -208,7 +219,7 @@ pub(crate) fn boost(
     requires low { ⌜ SinceLow held (tracks (now floats) (now counters) held) ⌝ }
     ensures { λ r. ⌜ callWith r (now (scores .exit))
         ≡ accepted (Update.afterDuo settings frame (now (corners .entry)) (tracks (now (floats .entry)) (now (counters .entry)) held)
-        (Update.afterDlo settings (now (corners .entry)) (now (trks .entry)) (now (confs .entry)) (tracks (now (floats .entry)) (now (counters .entry)) held) (now (scores .entry)))) ⌝ }
+        (Update.afterDlo (alike sameLabel (now («box_labels» .entry)) (now («track_labels» .entry))) settings (now (corners .entry)) (now (trks .entry)) (now (confs .entry)) (tracks (now (floats .entry)) (now (counters .entry)) held) (now (scores .entry)))) ⌝ }
 {
     let boosted = dlo(
         settings,
@@ -218,6 +229,8 @@ pub(crate) fn boost(
         corners,
         trks,
         confs,
+        box_labels,
+        track_labels,
         work,
         scores,
     );

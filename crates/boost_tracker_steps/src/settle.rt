@@ -1,4 +1,4 @@
-// Steps 3 to 7 of a frame: the boxes that are retained, their pairs with the tracks, the tracks corrected by them and those started.
+// Steps 3 to 7 of a frame: the boxes that are retained, their pairs with the tracks, the tracks corrected by them and those started. A box and a track carry labels.
 use crate::boost::mh_dist;
 use crate::gather::of_corners;
 use crate::gather::put_four;
@@ -19,7 +19,7 @@ ghost use Rattle.records.specs.BoxRecord.{boxValues};
 ghost use Rattle.boost_tracker_table.specs.Lent.{callWith};
 ghost use Rattle.boost_tracker_verdict.specs.Verdict.{boxesIn};
 ghost use Rattle.boost_tracker_definition.specs.Update as Update;
-ghost use Rattle.boost_tracker_definition.specs.Update.{cornersOf, xyxyOf, remainInds, detScores};
+ghost use Rattle.boost_tracker_definition.specs.Update.{cornersOf, xyxyOf, remainInds, detScores, detLabels};
 ghost use Rattle.boost_tracker_definition.specs.Plain.{Above};
 ghost use Rattle.boost_tracker_steps.specs.AllSteps as AllSteps;
 ghost use Rattle.boost_tracker_steps.specs.Private.{Sized, KeptBoxes, Retained, StartRoom, settledCall};
@@ -87,11 +87,46 @@ fn retain_scores(thresh: f32, scores: &mut [f32]) -> usize
     w
 }
 
-pub(crate) fn retain(thresh: f32, objects: &[f32], scores: &mut [f32], corners: &mut [f32]) -> usize
-    requires { ⌜ (length (now scores) ≡ boxesIn (now objects)) × (length (now corners) ≡ boxesIn (now objects) * 4) ⌝ }
-    ensures { λ r. ⌜ Retained thresh (now (objects .entry)) (now (scores .entry)) (now (scores .exit)) (now (corners .exit)) r ⌝ }
+fn keep_label(thresh: f32, score: f32, label: u8, w: usize, out: &mut [u8]) -> usize
+    requires { ⌜ w < length (now out) ⌝ }
+    ensures count { λ r. ⌜ r ≡ cond (le thresh score) (w + 1) w ⌝ }
+    ensures cells { λ _. ⌜ now (out .exit) ≡ cond (le thresh score) (set (now (out .entry)) w label) (now (out .entry)) ⌝ }
+{
+    if score >= thresh {
+        out[w] = label;
+        return w + 1;
+    }
+    w
+}
+
+// Their labels go over the front of out.
+fn retain_labels(thresh: f32, scores: &[f32], box_labels: &[u8], out: &mut [u8]) -> usize
+    requires { ⌜ length (now scores) ≤ length (now out) ⌝ }
+    ensures { λ r. ⌜ Pushed (now (out .entry)) (detLabels (now («box_labels» .entry)) (remainInds thresh (now (scores .entry)))) r (now (out .exit)) ⌝ }
+{
+    let mut w = 0;
+    let mut i = 0;
+    while i < scores.len() {
+        let label = labels::label_at(box_labels, i);
+        w = keep_label(thresh, scores[i], label, w, out);
+        i += 1;
+    }
+    w
+}
+
+pub(crate) fn retain(
+    thresh: f32,
+    objects: &[f32],
+    box_labels: &[u8],
+    scores: &mut [f32],
+    corners: &mut [f32],
+    labels: &mut [u8],
+) -> usize
+    requires { ⌜ (length (now scores) ≡ boxesIn (now objects)) × ((length (now corners) ≡ boxesIn (now objects) * 4) × (length (now labels) ≡ boxesIn (now objects))) ⌝ }
+    ensures { λ r. ⌜ Retained thresh (now (objects .entry)) (now (scores .entry)) (now («box_labels» .entry)) (now (scores .exit)) (now (corners .exit)) (now (labels .exit)) r ⌝ }
 {
     let kept = retain_boxes(thresh, objects, scores, corners);
+    retain_labels(thresh, scores, box_labels, labels);
     retain_scores(thresh, scores);
     kept
 }
@@ -129,19 +164,21 @@ pub(crate) fn settle(
     held: usize,
     floats: &mut [f32],
     counters: &mut [u64],
+    labels: &mut [u8],
     corners: &[f32],
     trks: &[f32],
     confs: &[f32],
     scores: &[f32],
+    box_labels: &[u8],
     work64: &mut [f64],
     work32: &mut [f32],
 ) -> AssignmentAnswer
     requires sizes { ⌜ Sized held (length (now corners)) (length (now trks)) (length (now confs)) (length (now scores)) (length (now work64)) (length (now work32)) ⌝ }
-    requires room { ⌜ StartRoom held (length (now scores)) last (length (now floats)) (length (now counters)) ⌝ }
+    requires room { ⌜ StartRoom held (length (now scores)) last (length (now floats)) (length (now counters)) (length (now labels)) ⌝ }
     requires above { ⌜ Above (settings .«det_thresh») (now scores) ⌝ }
-    ensures { λ r. ⌜ callWith r (AllSteps.lentWith (now (floats .exit)) (now (counters .exit)) (now (work64 .exit)) (now (work32 .exit)))
-        ≡ settledCall settings last (now (corners .entry)) (now (scores .entry)) (now (trks .entry)) (now (confs .entry)) held
-        (AllSteps.lentWith (now (floats .entry)) (now (counters .entry)) (now (work64 .entry)) (now (work32 .entry))) ⌝ }
+    ensures { λ r. ⌜ callWith r (AllSteps.lentWith (now (floats .exit)) (now (counters .exit)) (now (labels .exit)) (now (work64 .exit)) (now (work32 .exit)))
+        ≡ settledCall settings last (now (corners .entry)) (now (scores .entry)) (now (trks .entry)) (now (confs .entry)) (now («box_labels» .entry)) held
+        (AllSteps.lentWith (now (floats .entry)) (now (counters .entry)) (now (labels .entry)) (now (work64 .entry)) (now (work32 .entry))) ⌝ }
 {
     let boxes = scores.len();
     let distances = mh_dist(true, floats, counters, held, boxes, corners, work32);
@@ -160,6 +197,8 @@ pub(crate) fn settle(
         trks,
         confs,
         scores,
+        box_labels,
+        &labels[..held],
         &mut pair_boxes,
         &mut pair_tracks,
         &mut unmatched,
@@ -173,9 +212,11 @@ pub(crate) fn settle(
     boost_tracker_follow::follow(
         floats,
         counters,
+        labels,
         held,
         last,
         corners,
+        box_labels,
         counts,
         &pair_boxes,
         &pair_tracks,

@@ -29,9 +29,9 @@ by-age (suc (suc (suc (suc (suc zero))))) = refl
 by-age (suc (suc (suc (suc (suc (suc zero)))))) = refl
 by-age (suc (suc (suc (suc (suc (suc (suc k))))))) = from-seven (suc (suc (suc (suc (suc (suc (suc k))))))) (omega arith)
 
-pub emitted-confidence : (frame hits : ℕ) (t : Track) → emits frame hits t ≡ true → recordOf frame t .confidence ≡ getD emittedConfidences (min (t .age) 7) nan
+pub emitted-confidence : (frame hits : ℕ) (t : Track) (label : ℕ) → emits frame hits t ≡ true → recordOf frame t label .confidence ≡ getD emittedConfidences (min (t .age) 7) nan
 unfolding recordOf
-emitted-confidence frame hits t e =
+emitted-confidence frame hits t label e =
     let low = ltb-true (t .since) 1 (and-left _ _ e) in
     let none : t .since ≡ 0 = omega (arith, low) in
     ap (λ (since : ℕ). confidence (t .age) since nineTenths) none ∙ by-age (t .age)

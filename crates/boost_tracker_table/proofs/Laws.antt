@@ -1,20 +1,23 @@
 -- What a caller of the operations on the table needs: where the tracks of a list are read and stored, how operations follow each other, and how many tracks there are. Assumes nothing.
 use mathlib.Core.Path.{_≡_, refl, sym, ap, _∙_}
 use mathlib.Core.List.{List, [], _∷_, _++_}
-use Prim.Native.Nat.{ℕ, zero, suc, _+_, _-_, _*_, _≤_, _<_}
+use Prim.Native.Nat.{ℕ, zero, suc, _+_, _-_, _*_, _≤_, _<_, min}
 use native.Mathlib.Nat.{le-trans, min-eq-left, mul-le-mul-right}
 use native.Mathlib.Omega.{arith}
-use lib.ListN.{length, length-append, length-drop, getD, set, take, drop, replicate, length-replicate, drop-of-length-le, List·getD-eq-default}
+use lib.ListN.{length, length-append, length-drop, length-map, getD, set, take, drop, replicate, length-replicate, drop-of-length-le, List·getD-eq-default}
 use lib.Seq.{drop-at, drop-cons, length-take-le, take-all}
 use lib.Ieee.{Float, nan}
 use Rattle.laws.specs.Tab.{tab, length-tab, tab-at, tab-of}
 use Rattle.laws.specs.Sieve.{sieve-few}
+use Rattle.laws.specs.Picked.{sieve-places}
 use Rattle.laws.specs.Splice.{splice}
 use Rattle.laws.specs.Laid.{rows, length-rows, laid, laid-none, laid-more, laid-rest, laid-at, length-laid}
+use Rattle.laws.specs.Over.{over}
 use Rattle.laws.specs.Records.{laid-here, laid-set, laid-laid}
 use Rattle.floats.specs.Single as single
-use Rattle.boost_tracker_table.specs.Table.{placeFloats, placeCounters, Room, Track, trackOf, trackAt, floatsOf, countersOf, blank, capacity, placed, tracks, pushed, young, retained, Laying, Retired, filledUp, Emptied}
+use Rattle.boost_tracker_table.specs.Table.{placeFloats, placeCounters, Room, Track, trackOf, trackAt, floatsOf, countersOf, blank, capacity, placesIn, placed, tracks, pushed, young, retained, Laying, Retired, filledUp, Emptied, zeroFilled}
 use Rattle.boost_tracker_table.specs.Lent.{tableWith, laidOver, holding}
+use Rattle.boost_tracker_table.specs.Emission.{emits, emitted, emittedInds}
 
 -- ---- how many
 
@@ -39,6 +42,10 @@ tracks-many f c held h = tracks-placed f c held ∙ min-eq-left h
 pub tracks-at : (f : List Float) (c : List ℕ) (held i : ℕ) (d : Track) → i < placed (length f) (length c) held → getD (tracks f c held) i d ≡ trackAt f c i
 unfolding tracks
 tracks-at f c held i d h = tab-at (trackAt f c) (placed (length f) (length c) held) i d h
+
+-- the track that was read at place i is track i
+pub track-read : (f : List Float) (c : List ℕ) (held : ℕ) {n i : ℕ} {t : Track} → n ≡ placed (length f) (length c) held → i < n → t ≡ trackAt f c i → t ≡ getD (tracks f c held) i blank
+track-read f c held {n} {i} e h q = q ∙ sym (tracks-at f c held i blank (rw e at h))
 
 pub tracks-past : (f : List Float) (c : List ℕ) (held i : ℕ) (d : Track) → placed (length f) (length c) held ≤ i → getD (tracks f c held) i d ≡ d
 tracks-past f c held i d h = List·getD-eq-default (tracks f c held) d {n = i} (rw (tracks-placed f c held) h)
@@ -150,26 +157,32 @@ module _ {f₀ : List Float} {c₀ : List ℕ} {f : List Float} {c : List ℕ} {
       → Laying f c f₂ c₂ (g (tracks f c held)) → length xs ≤ length (g xs) → Laying f₀ c₀ f₂ c₂ (g xs)
   lay-next g e h v l = lay-lay (rw (lay-tracks e h) at v) l
 
-  -- the zeroing after an operation: only cells past the capacity are as they were before both
-  pub lay-emptied : {f₂ : List Float} {c₂ : List ℕ} {ys : List Track} → length xs ≤ capacity (length f₀) (length c₀) → Emptied f c ys f₂ c₂ → Emptied f₀ c₀ ys f₂ c₂
+  -- the zeroing after an operation: only cells past the places are as they were before both
+  pub lay-emptied : {f₂ : List Float} {c₂ : List ℕ} {places : ℕ} {ys : List Track} → length xs ≤ places → Emptied f c places ys f₂ c₂ → Emptied f₀ c₀ places ys f₂ c₂
   unfolding filledUp
-  lay-emptied {f₂} {c₂} {ys} h v =
-      let places : ℕ = capacity (length f₀) (length c₀) in
+  lay-emptied {f₂} {c₂} {places} {ys} h v =
       let df : drop (places * placeFloats) f ≡ drop (places * placeFloats) f₀ = ap (drop (places * placeFloats)) (w .floats) ∙ laid-rest floatsOf placeFloats (λ _. refl) xs f₀ places h in
       let dc : drop (places * placeCounters) c ≡ drop (places * placeCounters) c₀ = ap (drop (places * placeCounters)) (w .counters) ∙ laid-rest countersOf placeCounters (λ _. refl) xs c₀ places h in
-      record { floats = rw (lay-capacity h, df) at (v .floats); counters = rw (lay-capacity h, dc) at (v .counters) }
+      record { floats = rw df at (v .floats); counters = rw dc at (v .counters) }
 
 -- retirement and zeroing after an operation, as a frame ends
-pub lay-finished : {f₀ f f₂ f₃ : List Float} {c₀ c c₂ c₃ : List ℕ} {xs : List Track} {held oldest n : ℕ} → Laying f₀ c₀ f c xs → length xs ≡ held → held ≤ capacity (length f₀) (length c₀)
-    → Retired f c held oldest f₂ c₂ n → Emptied f₂ c₂ (tracks f₂ c₂ n) f₃ c₃ → (n ≡ length (retained oldest xs)) × Emptied f₀ c₀ (retained oldest xs) f₃ c₃
-lay-finished {f₀} {f} {f₂} {f₃} {c₀} {c} {c₂} {c₃} {xs} {held} {oldest} {n} w e h r v =
+pub lay-finished : {f₀ f f₂ f₃ : List Float} {c₀ c c₂ c₃ : List ℕ} {xs : List Track} {held oldest places n : ℕ} → Laying f₀ c₀ f c xs → length xs ≡ held → held ≤ places → places ≤ capacity (length f₀) (length c₀)
+    → Retired f c held oldest f₂ c₂ n → Emptied f₂ c₂ (placed (length f₂) (length c₂) places) (tracks f₂ c₂ (min n places)) f₃ c₃
+    → (n ≡ length (retained oldest xs)) × Emptied f₀ c₀ places (retained oldest xs) f₃ c₃
+lay-finished {f₀} {f} {f₂} {f₃} {c₀} {c} {c₂} {c₃} {xs} {held} {oldest} {places} {n} w e h room r v =
     let ys : List Track = retained oldest xs in
-    let fits : length xs ≤ capacity (length f₀) (length c₀) = rw e h in
-    let few : length ys ≤ capacity (length f) (length c) = rw (lay-capacity w fits) (le-trans (sieve-few (young oldest) xs) fits) in
-    let count : n ≡ length ys = rw (lay-tracks w e h) at (r .count) in
-    let left : Laying f c f₂ c₂ ys = rw (lay-tracks w e h) at (r .laying) in
-    let holds : tracks f₂ c₂ n ≡ ys = lay-tracks left (sym count) (rw count few) in
-    (count, lay-emptied w fits (lay-emptied left few (rw holds at v)))
+    let fits : length xs ≤ places = rw e h in
+    let fewer : length ys ≤ places = le-trans (sieve-few (young oldest) xs) fits in
+    let holds : tracks f c held ≡ xs = lay-tracks w e (le-trans h room) in
+    let count : n ≡ length ys = rw holds at (r .count) in
+    let left : Laying f c f₂ c₂ ys = rw holds at (r .laying) in
+    let same : capacity (length f) (length c) ≡ capacity (length f₀) (length c₀) = lay-capacity w (le-trans fits room) in
+    let low : places ≤ capacity (length f) (length c) = rw same room in
+    let same₂ : capacity (length f₂) (length c₂) ≡ capacity (length f) (length c) = lay-capacity left (le-trans fewer low) in
+    let end : placed (length f₂) (length c₂) places ≡ places = min-eq-left (rw same₂ low) in
+    let all : min n places ≡ n = min-eq-left (rw count fewer) in
+    let stay : tracks f₂ c₂ n ≡ ys = lay-tracks left (sym count) (rw count (le-trans fewer low)) in
+    (count, lay-emptied w fits (lay-emptied left fewer (rw (end, all, stay) at v)))
 
 -- one more, where there is a place
 pub pushed-room : (places : ℕ) (ts : List Track) (t : Track) → length ts < places → pushed places ts t ≡ ts ++ (t ∷ [])
@@ -191,27 +204,36 @@ module _ {A : Type 0} (enc : Track → List A) (s : ℕ) (size : (t : Track) →
       let low : length ts * s ≤ places * s = mul-le-mul-right s h in
       ap length e ∙ simp (length-append, length-rows enc s size ts, length-replicate, length-drop) (omega arith)
 
-module _ {f₀ : List Float} {c₀ : List ℕ} {ts : List Track} {f : List Float} {c : List ℕ} (v : Emptied f₀ c₀ ts f c) (h : length ts ≤ capacity (length f₀) (length c₀)) where
+module _ {f₀ : List Float} {c₀ : List ℕ} {places : ℕ} {ts : List Track} {f : List Float} {c : List ℕ} (v : Emptied f₀ c₀ places ts f c) (h : length ts ≤ places) (low : places ≤ capacity (length f₀) (length c₀)) where
   pub emptied-lengths : (length f ≡ length f₀) × (length c ≡ length c₀)
   emptied-lengths =
-      let room = capacity-room (length f₀) (length c₀) in (
-        filled-length floatsOf placeFloats (λ _. refl) single.plusZero ts (capacity (length f₀) (length c₀)) f₀ f (v .floats) h (room .in-floats),
-        filled-length countersOf placeCounters (λ _. refl) 0 ts (capacity (length f₀) (length c₀)) c₀ c (v .counters) h (room .in-counters),
+      let room = low-room low in (
+        filled-length floatsOf placeFloats (λ _. refl) single.plusZero ts places f₀ f (v .floats) h (room .in-floats),
+        filled-length countersOf placeCounters (λ _. refl) 0 ts places c₀ c (v .counters) h (room .in-counters),
       )
 
   -- the tracks that a frame left are those that the next one holds
   pub emptied-tracks : tracks f c (length ts) ≡ ts
   emptied-tracks =
       let here : Laying f c f c ts = record {
-        floats = filled-holds floatsOf placeFloats (λ _. refl) single.plusZero ts (capacity (length f₀) (length c₀)) f₀ f (v .floats);
-        counters = filled-holds countersOf placeCounters (λ _. refl) 0 ts (capacity (length f₀) (length c₀)) c₀ c (v .counters);
+        floats = filled-holds floatsOf placeFloats (λ _. refl) single.plusZero ts places f₀ f (v .floats);
+        counters = filled-holds countersOf placeCounters (λ _. refl) 0 ts places c₀ c (v .counters);
       } in
-      lay-tracks here refl (rw (emptied-lengths .0, emptied-lengths .1) h)
+      lay-tracks here refl (rw (emptied-lengths .0, emptied-lengths .1) (le-trans h low))
 
 -- ---- what the operations leave, as one value of the table
 
-pub laid-table : {f f′ : List Float} {c c′ : List ℕ} {ts : List Track} → Laying f c f′ c′ ts → tableWith f′ c′ ≡ laidOver ts (tableWith f c)
-laid-table w = rw (w .floats, w .counters)
+pub laid-table : {f f′ : List Float} {c c′ l′ : List ℕ} (l labels : List ℕ) {ts : List Track} → Laying f c f′ c′ ts → l′ ≡ over labels l → tableWith f′ c′ l′ ≡ laidOver ts labels (tableWith f c l)
+laid-table l labels w e = rw (w .floats, w .counters, e)
 
-pub held-table : {f f′ : List Float} {c c′ : List ℕ} {ts : List Track} → Emptied f c ts f′ c′ → tableWith f′ c′ ≡ holding ts (tableWith f c)
-held-table w = rw (w .floats, w .counters)
+pub held-table : {f f′ : List Float} {c c′ l′ : List ℕ} (l labels : List ℕ) {ts : List Track} → Emptied f c (placesIn (length f) (length c) (length l)) ts f′ c′
+    → l′ ≡ zeroFilled labels (placesIn (length f) (length c) (length l)) l → tableWith f′ c′ l′ ≡ holding ts labels (tableWith f c l)
+held-table l labels w e = rw (w .floats, w .counters, e)
+
+-- ---- what is put out
+
+-- as many places as tracks
+pub emitted-many : (frame hits : ℕ) (ts : List Track) → length (emittedInds frame hits ts) ≡ length (emitted frame hits ts)
+emitted-many frame hits ts =
+    let at : ℕ → Track = λ i. getD ts i blank in
+    sym (length-map (emittedInds frame hits ts) at) ∙ ap length (sieve-places (emits frame hits) ts blank)

@@ -21,7 +21,7 @@ use Rattle.strack.specs.Strack.{update}
 use Rattle.strack.proofs.Laws.{update-accepted, update-refused}
 use Rattle.boost_tracker_table.specs.Table.{placeFloats, placeCounters, Room, Track, trackAt, floatsOf, countersOf, blank, capacity, placed, tracks, corrected, pushed, young, Laying, Retired, filledUp, Emptied}
 use Rattle.boost_tracker_table.specs.Private.{Kept}
-use Rattle.boost_tracker_table.proofs.Laws.{capacity-room, tracks-placed, tracks-many, lay-here, lay-none, lay-lengths, same-place, lay-behind, lay-on, lay-set, pushed-room}
+use Rattle.boost_tracker_table.proofs.Laws.{placed-room, tracks-placed, tracks-many, lay-here, lay-none, lay-lengths, same-place, lay-behind, lay-on, lay-set, pushed-room}
 
 -- ---- one track
 
@@ -172,15 +172,15 @@ pub record Clearing (f₀ : List Float) (c₀ : List ℕ) (ts : List Track) (pla
   pub same-c : length c ≡ length c₀
 
 module _ (f₀ : List Float) (c₀ : List ℕ) (held : ℕ) where
-  pub clear-start : {places i : ℕ} → places ≡ capacity (length f₀) (length c₀) → i ≡ min held places → Clearing f₀ c₀ (tracks f₀ c₀ held) places f₀ c₀ i
-  clear-start {places} {i} e n =
-      let many = tracks-placed f₀ c₀ held in
+  pub clear-start : (places : ℕ) {end i : ℕ} → end ≡ placed (length f₀) (length c₀) places → i ≡ min held end → Clearing f₀ c₀ (tracks f₀ c₀ (min held places)) end f₀ c₀ i
+  clear-start places {end} {i} e n =
+      let many = tracks-placed f₀ c₀ (min held places) in
       record {
-        room = rw e (capacity-room (length f₀) (length c₀));
+        room = rw e (placed-room (length f₀) (length c₀) places);
         upto = omega arith;
         blanks = 0;
         count = omega (arith, many, e, n);
-        laying = rw (append-nil (tracks f₀ c₀ held)) (lay-here f₀ c₀ held);
+        laying = rw (append-nil (tracks f₀ c₀ (min held places))) (lay-here f₀ c₀ (min held places));
         same-f = refl;
         same-c = refl;
       }
@@ -203,10 +203,10 @@ module _ {f₀ : List Float} {c₀ : List ℕ} {ts : List Track} {places : ℕ} 
       let lens = lay-lengths laying (rw now-many (record { few = omega arith; in-floats = omega arith; in-counters = omega arith })) in
       record { room = w .room; upto = omega arith; blanks = k + 1; count = omega arith; laying = laying; same-f = lens .0; same-c = lens .1 }
 
-  pub clear-end : places ≤ i → places ≡ capacity (length f₀) (length c₀) → Emptied f₀ c₀ ts f c
-  clear-end h e =
+  pub clear-end : {end : ℕ} → places ≤ i → places ≡ end → Emptied f₀ c₀ end ts f c
+  clear-end {end} h e =
       let k : ℕ = w .blanks in
-      let all : length ts + k ≡ capacity (length f₀) (length c₀) = omega (arith, w .count, w .upto, h, e) in
+      let all : length ts + k ≡ end = omega (arith, w .count, w .upto, h, e) in
       record {
         floats = w .laying .floats ∙ blank-filled floatsOf placeFloats single.plusZero refl ts k f₀ ∙ ap (λ (n : ℕ). filledUp floatsOf placeFloats single.plusZero ts n f₀) all;
         counters = w .laying .counters ∙ blank-filled countersOf placeCounters 0 refl ts k c₀ ∙ ap (λ (n : ℕ). filledUp countersOf placeCounters 0 ts n c₀) all;

@@ -4,19 +4,33 @@ use mathlib.Core.Bool.{Bool, _&&_, _||_}
 use mathlib.Core.List.{List, [], _∷_}
 use Prim.Native.Nat.{ℕ}
 use lib.Dec.{ltb, leb}
-use lib.ListN.{length}
+use lib.ListN.{length, getD}
 use lib.Ieee.{Float, binary32, ofBits}
+use Rattle.laws.specs.Tab.{indices}
 use Rattle.laws.specs.Sieve.{sieve}
 use Rattle.laws.specs.Laid.{laid}
+use Rattle.labels.specs.Label.{labelAt}
+use Rattle.records.specs.declared.track_record.TrackRecord.{TrackRecord}
 use Rattle.records.specs.TrackRecord.{trackBytes}
-use Rattle.boost_tracker_table.specs.Table.{Track}
-use Rattle.boost_tracker_table.specs.Record.{recordBytes}
+use Rattle.boost_tracker_table.specs.Table.{Track, blank}
+use Rattle.boost_tracker_table.specs.Record.{recordOf, recordBytes}
 
 abbrev pub emits : ℕ → ℕ → Track → Bool
 emits frame hits t = ltb (t .since) 1 && (leb hits (t .streak) || leb frame hits)
 
 abbrev pub emitted : ℕ → ℕ → List Track → List Track
 emitted frame hits ts = sieve (emits frame hits) ts
+
+-- their places in the table
+abbrev pub emittedInds : ℕ → ℕ → List Track → List ℕ
+emittedInds frame hits ts = sieve (λ i. emits frame hits (getD ts i blank)) (indices (length ts))
+
+-- the record of the track and the label at place i, and its bytes as it is written
+abbrev pub recordAt : ℕ → List Track → List ℕ → ℕ → TrackRecord
+recordAt frame ts labels i = recordOf frame (getD ts i blank) (labelAt labels i)
+
+abbrev pub bytesAt : Bool → ℕ → List Track → List ℕ → ℕ → List ℕ
+bytesAt cap frame ts labels i = recordBytes cap frame (getD ts i blank) (labelAt labels i)
 
 -- the confidences that a frame can put out: time since update is 0 then, so that the age decides, 0 to 6 and from 7 on. None is a NaN, and the last one alone is above 1.
 -- `emitted-confidence` of proofs/ConfidenceLaws.antt says that it is one of these.
@@ -26,6 +40,6 @@ emittedConfidences =
     ∷ ofBits binary32 0x3f8e_38e4 ∷ []
 
 -- their records, as they are written, lie over the front of out₀, n of them
-pub record Emitted (ts : List Track) (frame hits : ℕ) (cap : Bool) (out₀ out : List ℕ) (n : ℕ) : Type 0 where
+pub record Emitted (ts : List Track) (labels : List ℕ) (frame hits : ℕ) (cap : Bool) (out₀ out : List ℕ) (n : ℕ) : Type 0 where
   pub count : n ≡ length (emitted frame hits ts)
-  pub bytes : out ≡ laid (recordBytes cap frame) trackBytes (emitted frame hits ts) out₀
+  pub bytes : out ≡ laid (bytesAt cap frame ts labels) trackBytes (emittedInds frame hits ts) out₀

@@ -1,16 +1,18 @@
--- Examples that the definitions compute: document 01's record of a first track, confidences as they are written, and capacities.
+-- Examples that the definitions compute: document 01's record of a first track, confidences as they are written, capacities and labels.
 use mathlib.Core.Path.{_≡_, refl}
 use mathlib.Core.Bool.{Bool, true, false}
 use mathlib.Core.List.{List, [], _∷_, map}
 use Prim.Native.Nat.{ℕ}
 use lib.Ieee.{ofBits, toBits, add, sub, mul, div, lt, le}
+use Rattle.laws.specs.Tab.{tab}
+use Rattle.laws.specs.Sieve.{sieve}
 use Rattle.floats.specs.Known.{f32, bits}
 use Rattle.floats.specs.Power.{powi}
 use Rattle.records.specs.Known.{loneTrack}
 use Rattle.strack.specs.declared.rect.Xyxy.{Xyxy}
 use Rattle.strack.specs.Rect.{widthOf}
 use Rattle.strack.specs.Strack.{new as newTrack, getState, confidence}
-use Rattle.boost_tracker_table.specs.Table.{Track, capacity}
+use Rattle.boost_tracker_table.specs.Table.{Track, capacity, placesIn, young, labelsWhere, zeroFilled, labelsEmptied}
 use Rattle.boost_tracker_table.specs.Record.{recordOf, atMostOne, written}
 
 -- ---- a record: the track of the box 10, 20, 32, 64 alone in frame 1 is the one that document 01 prints
@@ -21,7 +23,7 @@ corners = record { x1 = f32 0x4120_0000; y1 = f32 0x41a0_0000; x2 = f32 0x4228_0
 abbrev firstTrack : Track
 firstTrack = newTrack corners 1
 
-pub first-record : recordOf 1 firstTrack ≡ loneTrack
+pub first-record : recordOf 1 firstTrack 1 ≡ loneTrack
 unfolding recordOf newTrack getState widthOf confidence powi ofBits add sub mul div le
 first-record = refl
 
@@ -31,7 +33,7 @@ abbrev seen : ℕ → Track
 seen age = record { kf = firstTrack .kf; id = 1; since = 0; streak = 3; age = age }
 
 abbrev confidenceAt : Bool → ℕ → ℕ
-confidenceAt cap age = bits (written cap (recordOf 9 (seen age)) .confidence)
+confidenceAt cap age = bits (written cap (recordOf 9 (seen age) 1) .confidence)
 
 abbrev ages : List ℕ
 ages = 0 ∷ 1 ∷ 2 ∷ 3 ∷ 4 ∷ 5 ∷ 6 ∷ 7 ∷ 8 ∷ []
@@ -47,6 +49,22 @@ pub capped : (map (λ (b : ℕ). bits (atMostOne (f32 b))) (0x3f7f_ffff ∷ 0x3f
 unfolding ofBits toBits lt
 capped = (refl, refl)
 
--- ---- capacities: whole places of both slices, at most 255
+-- ---- capacities: whole places of the slices, at most 255
 pub capacities : (capacity 48 8 ≡ 2) × (capacity 47 8 ≡ 1) × (capacity 48 7 ≡ 1) × (capacity 7200 1024 ≡ 255) × (capacity 0 8 ≡ 0)
 capacities = (refl, refl, refl, refl, refl)
+
+pub places : (placesIn 48 8 2 ≡ 2) × (placesIn 48 8 1 ≡ 1) × (placesIn 48 8 0 ≡ 0) × (placesIn 48 8 9 ≡ 2) × (placesIn 7200 1024 300 ≡ 255)
+places = (refl, refl, refl, refl, refl)
+
+-- ---- labels: those of the tracks that stay, and zeros behind them up to the places
+
+abbrev lost : ℕ → Track
+lost since = record { kf = firstTrack .kf; id = 1; since = since; streak = 0; age = 9 }
+
+pub retired-labels : labelsWhere (young 30) (lost 0 ∷ lost 31 ∷ lost 30 ∷ []) (2 ∷ 3 ∷ 1 ∷ 7 ∷ []) ≡ 2 ∷ 1 ∷ []
+unfolding labelsWhere sieve tab
+retired-labels = refl
+
+pub emptied-labels : (labelsEmptied 1 3 (2 ∷ 3 ∷ 1 ∷ 7 ∷ []) ≡ 2 ∷ 0 ∷ 0 ∷ 7 ∷ []) × (labelsEmptied 3 3 (2 ∷ 3 ∷ 1 ∷ 7 ∷ []) ≡ 2 ∷ 3 ∷ 1 ∷ 7 ∷ [])
+unfolding zeroFilled
+emptied-labels = (refl, refl)

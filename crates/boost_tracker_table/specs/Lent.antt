@@ -1,36 +1,44 @@
 -- The lent table as one value, as contracts speak of it, and what a call answers and leaves.
 use mathlib.Core.List.{List}
 use Prim.Native.Nat.{ℕ}
-use lib.ListN.{length}
+use lib.ListN.{length, take}
 use lib.Ieee.{Float}
 use Rattle.laws.specs.Laid.{laid}
+use Rattle.laws.specs.Over.{over}
 use Rattle.floats.specs.Single.{plusZero}
-use Rattle.boost_tracker_table.specs.Table.{placeFloats, placeCounters, Track, floatsOf, countersOf, capacity, tracks, filledUp}
+use Rattle.boost_tracker_table.specs.Table.{placeFloats, placeCounters, Track, floatsOf, countersOf, placesIn, tracks, filledUp, zeroFilled}
 
 -- ---- the table
 
 pub record Table : Type 0 where
   pub floats : List Float
   pub counters : List ℕ
+  -- a byte a place
+  pub labels : List ℕ
 
-abbrev pub tableWith : List Float → List ℕ → Table
-tableWith floats counters = record { floats = floats; counters = counters }
+abbrev pub tableWith : List Float → List ℕ → List ℕ → Table
+tableWith floats counters labels = record { floats = floats; counters = counters; labels = labels }
 
 -- how many tracks it holds at most
 abbrev pub placesOf : Table → ℕ
-placesOf t = capacity (length (t .floats)) (length (t .counters))
+placesOf t = placesIn (length (t .floats)) (length (t .counters)) (length (t .labels))
 
--- the tracks that it holds with this count
+-- the tracks that it holds with this count, and their labels
 abbrev pub tracksIn : Table → ℕ → List Track
 tracksIn t held = tracks (t .floats) (t .counters) held
 
--- these tracks over its front
-abbrev pub laidOver : List Track → Table → Table
-laidOver ts t = tableWith (laid floatsOf placeFloats ts (t .floats)) (laid countersOf placeCounters ts (t .counters))
+abbrev pub labelsIn : Table → ℕ → List ℕ
+labelsIn t held = take held (t .labels)
 
--- these tracks, zero in every place beyond them, and cells past the capacity as they were
-abbrev pub holding : List Track → Table → Table
-holding ts t = tableWith (filledUp floatsOf placeFloats plusZero ts (placesOf t) (t .floats)) (filledUp countersOf placeCounters 0 ts (placesOf t) (t .counters))
+-- these tracks with these labels over its front
+abbrev pub laidOver : List Track → List ℕ → Table → Table
+laidOver ts labels t = tableWith (laid floatsOf placeFloats ts (t .floats)) (laid countersOf placeCounters ts (t .counters)) (over labels (t .labels))
+
+-- these tracks with these labels, zero in every place beyond them, and cells past the places as they were
+abbrev pub holding : List Track → List ℕ → Table → Table
+holding ts labels t =
+    let places : ℕ = placesOf t in
+    tableWith (filledUp floatsOf placeFloats plusZero ts places (t .floats)) (filledUp countersOf placeCounters 0 ts places (t .counters)) (zeroFilled labels places (t .labels))
 
 -- ---- a call
 

@@ -1,4 +1,4 @@
--- What boost_tracker.rs emits of a track, lines 365-382, as a track record, and the record that is written of it.
+-- What boost_tracker.rs emits of a track, lines 365-382, as a track record, the label last; and the record that is written of it.
 use mathlib.Core.Path.{_≡_, refl}
 use mathlib.Core.Bool.{Bool, false, cond}
 use mathlib.Core.List.{List}
@@ -20,8 +20,8 @@ pub nine-tenths : nineTenths ≡ round binary32 false 9 10
 unfolding ofBits round
 nine-tenths = refl
 
-unfoldable pub recordOf : ℕ → Track → TrackRecord
-recordOf frame t =
+unfoldable pub recordOf : ℕ → Track → ℕ → TrackRecord
+recordOf frame t label =
     let state : Xyxy = getState t in
     let rect : Rect = fromXyxy (state .x1) (state .y1) (state .x2) (state .y2) in
     record {
@@ -32,6 +32,7 @@ recordOf frame t =
       width = rect .width;
       height = rect .height;
       confidence = getConfidence t nineTenths;
+      label = label;
     }
 
 -- ---- the record that is written: with the setting cap_confidence, "an emitted confidence above 1 is written as 1"
@@ -49,8 +50,9 @@ written cap r = record {
   width = r .width;
   height = r .height;
   confidence = cond cap (atMostOne (r .confidence)) (r .confidence);
+  label = r .label;
 }
 
 -- its bytes
-abbrev pub recordBytes : Bool → ℕ → Track → List ℕ
-recordBytes cap frame t = bytesOfTrack (written cap (recordOf frame t))
+abbrev pub recordBytes : Bool → ℕ → Track → ℕ → List ℕ
+recordBytes cap frame t label = bytesOfTrack (written cap (recordOf frame t label))

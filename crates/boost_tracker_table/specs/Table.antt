@@ -1,15 +1,17 @@
--- The lent table, document 01, "Records and limits": 24 floats and four counters (id, time since update, streak, age) a place. Its meaning is a list of tracks.
--- An operation on the table says which tracks it leaves in the front (Laying); Emptied also says that every place beyond is zero.
+-- The lent table, document 01, "Records and limits": 24 floats and four counters (id, time since update, streak, age) a place, and 02's N2: a label, a byte, "beside the old fields".
+-- Its meaning is a list of tracks and a list of their labels. An operation on the table says which tracks it leaves in the front (Laying); Emptied also says that every place beyond is zero.
 use mathlib.Core.Path.{_≡_}
 use mathlib.Core.Bool.{Bool}
-use mathlib.Core.List.{List, [], _∷_, _++_}
+use mathlib.Core.List.{List, [], _∷_, _++_, map}
 use Prim.Native.Nat.{ℕ, _+_, _-_, _*_, _/_, _≤_, min}
 use lib.Dec.{leb}
 use lib.ListN.{length, getD, set, take, drop, replicate}
 use lib.Ieee.{Float, nan}
-use Rattle.laws.specs.Tab.{tab}
+use Rattle.laws.specs.Tab.{tab, indices}
 use Rattle.laws.specs.Laid.{rows, laid}
+use Rattle.laws.specs.Over.{over}
 use Rattle.laws.specs.Sieve.{sieve}
+use Rattle.labels.specs.Label.{labelAt}
 use Rattle.strack.specs.declared.rect.Xyxy.{Xyxy}
 use Rattle.strack_filter.specs.declared.kalman_filter.Pair.{Pair}
 use Rattle.strack.specs.declared.strack.KalmanBoxTracker.{KalmanBoxTracker}
@@ -71,9 +73,13 @@ blank = record { kf = record { x = blankPair; y = blankPair; h = blankPair; r = 
 
 -- ---- the table
 
--- "It holds as many tracks as its slices allow, at most 255": the lengths of the slices are given
+-- whole places of the floats and the counters, at most 255: the lengths of the slices are given
 abbrev pub capacity : ℕ → ℕ → ℕ
 capacity floats counters = min (min (floats / placeFloats) (counters / placeCounters)) 255
+
+-- "It holds as many tracks as its slices allow, at most 255": the labels are one of its slices
+abbrev pub placesIn : ℕ → ℕ → ℕ → ℕ
+placesIn floats counters labels = min (capacity floats counters) labels
 
 -- a count above the capacity, as no sound table has it, stands for the capacity
 abbrev pub placed : ℕ → ℕ → ℕ → ℕ
@@ -119,7 +125,25 @@ pub record Retired (f₀ : List Float) (c₀ : List ℕ) (held oldest : ℕ) (f 
 unfoldable pub filledUp : {A : Type 0} → (Track → List A) → ℕ → A → List Track → ℕ → List A → List A
 filledUp enc s nought ts places l = rows enc ts ++ (replicate (places * s - length ts * s) nought ++ drop (places * s) l)
 
--- the table holds ts, every place beyond is zero, and cells past the capacity are as in f₀ and c₀
-pub record Emptied (f₀ : List Float) (c₀ : List ℕ) (ts : List Track) (f : List Float) (c : List ℕ) : Type 0 where
-  pub floats : f ≡ filledUp floatsOf placeFloats plusZero ts (capacity (length f₀) (length c₀)) f₀
-  pub counters : c ≡ filledUp countersOf placeCounters 0 ts (capacity (length f₀) (length c₀)) c₀
+-- the table holds ts, every place beyond is zero, and cells past its places are as in f₀ and c₀
+pub record Emptied (f₀ : List Float) (c₀ : List ℕ) (places : ℕ) (ts : List Track) (f : List Float) (c : List ℕ) : Type 0 where
+  pub floats : f ≡ filledUp floatsOf placeFloats plusZero ts places f₀
+  pub counters : c ≡ filledUp countersOf placeCounters 0 ts places c₀
+
+-- ---- the labels
+
+-- those of the tracks that have p
+unfoldable pub labelsWhere : (Track → Bool) → List Track → List ℕ → List ℕ
+labelsWhere p ts labels = map (labelAt labels) (sieve (λ i. p (getD ts i blank)) (indices (length ts)))
+
+-- these, zero up to `places` labels, and l behind them
+unfoldable pub zeroFilled : List ℕ → ℕ → List ℕ → List ℕ
+zeroFilled labels places l = labels ++ (replicate (places - length labels) 0 ++ drop places l)
+
+-- the labels of those held tracks that `retained` keeps, over the front of l
+abbrev pub labelsRetired : List Float → List ℕ → ℕ → ℕ → List ℕ → List ℕ
+labelsRetired f c held oldest l = over (labelsWhere (young oldest) (tracks f c (min held (length l))) l) l
+
+-- every label beyond the held tracks is zero, as far as there are labels
+abbrev pub labelsEmptied : ℕ → ℕ → List ℕ → List ℕ
+labelsEmptied held places l = let end : ℕ = min places (length l) in zeroFilled (take (min held end) l) end l

@@ -3,6 +3,7 @@ use crate::place::track_at;
 use crate::record::record_of;
 use crate::record::written;
 use crate::table::placed;
+use labels::label_at;
 use records::TRACK_BYTES;
 use records::Written;
 use records::write_track;
@@ -28,6 +29,7 @@ fn emits(t: KalmanBoxTracker, frame: u32, hits: u64) -> bool
 // Writes the track's record at place w, if it is put out; w after that. `cap` is the setting cap_confidence.
 fn emit_one(
     t: KalmanBoxTracker,
+    label: u8,
     w: usize,
     frame: u32,
     hits: u64,
@@ -36,11 +38,11 @@ fn emit_one(
 ) -> usize
     requires { ⌜ w < length (now out) / trackBytes ⌝ }
     ensures count { λ r. ⌜ r ≡ cond (emits frame hits t) (w + 1) w ⌝ }
-    ensures bytes { λ _. ⌜ now (out .exit) ≡ cond (emits frame hits t) (splice (now (out .entry)) (w * trackBytes) (recordBytes cap frame t)) (now (out .entry)) ⌝ }
+    ensures bytes { λ _. ⌜ now (out .exit) ≡ cond (emits frame hits t) (splice (now (out .entry)) (w * trackBytes) (recordBytes cap frame t label)) (now (out .entry)) ⌝ }
 {
     if emits(t, frame, hits) {
         // There is room, so it is never short.
-        let Written::Bytes(_) = write_track(written(record_of(frame, t), cap), w, out) else {
+        let Written::Bytes(_) = write_track(written(record_of(frame, t, label), cap), w, out) else {
             return w;
         };
         return w + 1;
@@ -52,13 +54,14 @@ fn emit_one(
 pub fn emit(
     floats: &[f32],
     counters: &[u64],
+    labels: &[u8],
     held: usize,
     frame: u32,
     hits: u64,
     cap: bool,
     out: &mut [u8],
 ) -> usize
-    ensures { λ r. ⌜ Emitted (tracks (now (floats .entry)) (now (counters .entry)) (min held (length (now (out .entry)) / trackBytes))) frame hits cap (now (out .entry)) (now (out .exit)) r ⌝ }
+    ensures { λ r. ⌜ Emitted (tracks (now (floats .entry)) (now (counters .entry)) (min held (length (now (out .entry)) / trackBytes))) (now (labels .entry)) frame hits cap (now (out .entry)) (now (out .exit)) r ⌝ }
 {
     let n = placed(
         floats.len(),
@@ -68,7 +71,15 @@ pub fn emit(
     let mut w = 0;
     let mut i = 0;
     while i < n {
-        w = emit_one(track_at(floats, counters, i), w, frame, hits, cap, out);
+        w = emit_one(
+            track_at(floats, counters, i),
+            label_at(labels, i),
+            w,
+            frame,
+            hits,
+            cap,
+            out,
+        );
         i += 1;
     }
     w

@@ -4,6 +4,7 @@ mod place;
 mod record;
 mod settings;
 mod table;
+mod table_labels;
 
 pub use emission::emit;
 pub use place::PLACE_COUNTERS;
@@ -15,5 +16,8 @@ pub use table::clear_beyond;
 pub use table::correct;
 pub use table::load;
 pub use table::placed;
+pub use table::places_in;
 pub use table::predict_all;
 pub use table::retire;
+pub use table_labels::clear_labels;
+pub use table_labels::retire_labels;

@@ -5,8 +5,8 @@ use strack::strack::KalmanBoxTracker;
 ghost use mathlib.Core.Path.{_≡_};
 ghost use Rattle.boost_tracker_table.specs.Record.{recordOf, written};
 
-pub(crate) fn record_of(frame: u32, t: KalmanBoxTracker) -> TrackRecord
-    ensures { λ r. ⌜ r ≡ recordOf frame t ⌝ }
+pub(crate) fn record_of(frame: u32, t: KalmanBoxTracker, label: u8) -> TrackRecord
+    ensures { λ r. ⌜ r ≡ recordOf frame t label ⌝ }
 {
     let state = t.get_state();
     let rect = Rect::from_xyxy(state.x1, state.y1, state.x2, state.y2);
@@ -18,6 +18,7 @@ pub(crate) fn record_of(frame: u32, t: KalmanBoxTracker) -> TrackRecord
         width: rect.width,
         height: rect.height,
         confidence: t.get_confidence(0.9),
+        label,
     }
 }
 

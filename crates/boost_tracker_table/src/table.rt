@@ -11,14 +11,14 @@ use strack_filter::kalman_filter::KalmanFilter;
 use strack_filter::kalman_filter::Pair;
 ghost use mathlib.Core.Path.{_≡_};
 ghost use mathlib.Core.List.{map};
-ghost use Prim.Native.Nat.{_+_, _*_, _≤_};
+ghost use Prim.Native.Nat.{_+_, _*_, _≤_, min};
 ghost use lib.ListN.{length, getD, set};
 ghost use Rattle.strack.specs.Strack.{predict as predictTrack};
 ghost use Rattle.boost_tracker_table.specs.Table as Table;
 ghost use Rattle.boost_tracker_table.specs.Table.{placeFloats, placeCounters, tracks, blankPair, pushed, Laying, Retired, Emptied};
 ghost use Rattle.boost_tracker_table.specs.Private.{Kept};
 
-// How many tracks a table of these lengths can hold.
+// How many whole places these lengths have.
 pub fn capacity(floats: usize, counters: usize) -> usize
     ensures { λ r. ⌜ r ≡ Table.capacity floats counters ⌝ }
 {
@@ -26,6 +26,13 @@ pub fn capacity(floats: usize, counters: usize) -> usize
         smaller(floats / PLACE_FLOATS, counters / PLACE_COUNTERS),
         255,
     )
+}
+
+// How many tracks a table of these lengths can hold.
+pub fn places_in(floats: usize, counters: usize, labels: usize) -> usize
+    ensures { λ r. ⌜ r ≡ Table.placesIn floats counters labels ⌝ }
+{
+    smaller(capacity(floats, counters), labels)
 }
 
 // How many of the held tracks have a place.
@@ -152,13 +159,13 @@ pub fn retire(floats: &mut [f32], counters: &mut [u64], held: usize, oldest: u64
 
 // ---- places beyond the held tracks
 
-// Zeros every place beyond the held tracks; cells past the capacity are not written.
-pub fn clear_beyond(floats: &mut [f32], counters: &mut [u64], held: usize)
-    ensures { λ _. ⌜ Emptied (now (floats .entry)) (now (counters .entry)) (tracks (now (floats .entry)) (now (counters .entry)) held) (now (floats .exit)) (now (counters .exit)) ⌝ }
+// Zeros every place beyond the held tracks, up to the table's places; cells past them are not written.
+pub fn clear_beyond(floats: &mut [f32], counters: &mut [u64], held: usize, places: usize)
+    ensures { λ _. ⌜ Emptied (now (floats .entry)) (now (counters .entry)) (Table.placed (length (now (floats .entry))) (length (now (counters .entry))) places) (tracks (now (floats .entry)) (now (counters .entry)) (min held places)) (now (floats .exit)) (now (counters .exit)) ⌝ }
 {
-    let places = capacity(floats.len(), counters.len());
-    let mut i = smaller(held, places);
-    while i < places {
+    let end = placed(floats.len(), counters.len(), places);
+    let mut i = smaller(held, end);
+    while i < end {
         put_track(floats, counters, i, blank());
         i += 1;
     }

@@ -1,12 +1,9 @@
-// Replays frames of standard input through update, and prints a line for each: what it answers, and digests of what it
-// is given and of all that it leaves. oracle/boost_tracker/run writes both files, stdin by its own rules and stdout by
-// the published tracker.
-//
-// A record is its kind and words. 0 lends a table: flags (1 DLO, 2 DUO, 4 rich, 8 soft, 16 varying, 32 shape v1,
-// 64 capped confidences), det_thresh, iou_threshold, the three weights, dlo_boost_coef, max_age, min_hits; count, last
-// id and frame count; how many floats and how many counters are lent, and how many of each follow, the others being 7;
-// then a title, these floats and these counters. 1 is a frame over the table as it was left: how many floats its boxes
-// have, the lengths of output and both work slices, then the boxes.
+// Replays frames of standard input through update, and prints a line for each: what it answers, and digests of what it is given and of all that it
+// leaves. oracle/boost_tracker/run writes both files, stdin by its own rules and stdout by the published tracker with the label rule.
+// A record is its kind and words. 0 lends a table: flags (1 DLO, 2 DUO, 4 rich, 8 soft, 16 varying, 32 shape v1, 64 capped confidences), det_thresh, iou_threshold,
+// the three weights, dlo_boost_coef, max_age, min_hits; count, last id and frame count; how many floats, counters and labels are lent, and how many floats and
+// counters follow, the others being 7; then a title, these, and all labels, a byte each. 1 is a frame over the table as it was left: how many floats and labels
+// its boxes have, the lengths of output and both work slices, then floats and labels.
 use boost_tracker::Settings;
 use boost_tracker::State;
 use boost_tracker::UpdateAnswer;
@@ -17,15 +14,17 @@ use vectors::lent;
 use vectors::line::Line;
 use vectors::part::at_most;
 
-// What goes on from record to record beside the table, and how many floats and counters of it are lent.
+// What goes on from record to record beside the table: the next one's kind, and how many floats, counters and labels are lent.
 struct Playing {
+    kind: u32,
     settings: Settings,
     state: State,
     floats: u64,
     counters: u64,
+    labels: u64,
 }
 
-fn settings(w: &[u64; 16]) -> Settings {
+fn settings(w: &[u64; 17]) -> Settings {
     Settings {
         det_thresh: float(w[1]),
         iou_threshold: float(w[2]),
@@ -45,8 +44,9 @@ fn settings(w: &[u64; 16]) -> Settings {
     }
 }
 
-fn started(w: &[u64; 16]) -> Playing {
+fn started(w: &[u64; 17]) -> Playing {
     Playing {
+        kind: 0,
         settings: settings(w),
         state: State {
             count: w[9] as usize,
@@ -55,23 +55,25 @@ fn started(w: &[u64; 16]) -> Playing {
         },
         floats: w[12],
         counters: w[13],
+        labels: w[14],
     }
 }
 
-fn table(floats: &[f32], counters: &[u64]) -> u64 {
-    digest::words(digest::floats(digest::START, floats), counters)
+fn table(f: &[f32], c: &[u64], l: &[u8]) -> u64 {
+    digest::bytes(digest::words(digest::floats(digest::START, f), c), l)
 }
 
 // Reads a table, and prints digests of the words and of what is lent.
-fn opened(w: &[u64; 16], floats: &mut [f32], counters: &mut [u64]) {
+fn opened(w: &[u64; 17], f: &mut [f32], c: &mut [u64], l: &mut [u8]) {
     let title = Line::titled().bar();
-    input::floats(w[14] as usize, 7.0, floats);
-    input::words(w[15] as usize, 7, counters);
+    input::floats(w[15] as usize, 7.0, f);
+    input::words(w[16] as usize, 7, c);
+    io::read_full(0, l);
     let words = title.digest(digest::words(digest::START, w));
-    words.digest(table(floats, counters)).print();
+    words.digest(table(f, c, l)).print();
 }
 
-fn answer(line: Line, boxes: &[f32], a: UpdateAnswer) -> Line {
+fn answer(line: Line, boxes: &[f32], labels: &[u8], a: UpdateAnswer) -> Line {
     let v = a.verdict;
     let state = a.state;
     let given = line.number(boxes.len() as u64 / 5).bar();
@@ -80,68 +82,69 @@ fn answer(line: Line, boxes: &[f32], a: UpdateAnswer) -> Line {
     let counted = emitted.number(a.scans as u64).bar();
     let held = counted.number(state.count as u64).number(state.last);
     let boxed = held.number(state.frames).bar();
-    boxed.digest(digest::floats(digest::START, boxes))
+    boxed.digest(digest::bytes(digest::floats(digest::START, boxes), labels))
 }
 
 // The state after a frame. Before the call each byte of the output is 7 and each cell of the work slices 1.
-fn frame(w: &[u64; 16], now: Playing, floats: &mut [f32], counters: &mut [u64]) -> State {
+fn frame(w: &[u64; 17], now: Playing, f: &mut [f32], c: &mut [u64], l: &mut [u8]) -> State {
     let mut values = [0.0f32; 1280];
-    let mut bytes = [7u8; 16416];
+    let mut of_boxes = [0u8; 258];
+    let mut bytes = [7u8; 16929];
     let mut doubles = [1.0f64; 65568];
     let mut singles = [1.0f32; 262176];
     let boxes = lent::floats(&mut values, w[0]);
-    let out = lent::bytes(&mut bytes, w[1]);
-    let u = lent::doubles(&mut doubles, w[2]);
-    let v = lent::floats(&mut singles, w[3]);
+    let out = lent::bytes(&mut bytes, w[2]);
+    let u = lent::doubles(&mut doubles, w[3]);
+    let v = lent::floats(&mut singles, w[4]);
     input::floats(1280, 0.0, boxes);
-    let settings = now.settings;
-    let state = now.state;
-    let a = boost_tracker::update(settings, state, floats, counters, boxes, out, u, v);
-    let said = answer(Line::new().text(b"frame"), boxes, a);
-    let left = said.digest(table(floats, counters));
+    let b = input::bytes(&mut of_boxes, w[1]);
+    let a = boost_tracker::update(now.settings, now.state, f, c, l, boxes, b, out, u, v);
+    let said = answer(Line::new().text(b"frame"), boxes, b, a);
+    let left = said.digest(table(f, c, l));
     let work = digest::doubles(digest::bytes(digest::START, out), u);
     left.digest(digest::floats(work, v)).print();
     a.state
 }
 
-fn step(kind: u32, w: &[u64; 16], now: Playing, floats: &mut [f32], counters: &mut [u64]) -> State {
-    if kind == 0 {
-        opened(w, floats, counters);
+fn step(w: &[u64; 17], now: Playing, f: &mut [f32], c: &mut [u64], l: &mut [u8]) -> State {
+    if now.kind == 0 {
+        opened(w, f, c, l);
         return now.state;
     }
-    frame(w, now, floats, counters)
+    frame(w, now, f, c, l)
 }
 
 // One record, over the part of the table that is lent.
-fn play(w: &[u64; 16], kind: u32, now: Playing, all: &mut [f32], counts: &mut [u64]) -> Playing {
-    let a = at_most(all.len(), now.floats);
-    let b = at_most(counts.len(), now.counters);
-    let state = step(kind, w, now, &mut all[..a], &mut counts[..b]);
+fn play(w: &[u64; 17], now: Playing, f: &mut [f32], c: &mut [u64], l: &mut [u8]) -> Playing {
+    let a = at_most(f.len(), now.floats);
+    let b = at_most(c.len(), now.counters);
+    let d = at_most(l.len(), now.labels);
     let mut then = now;
-    then.state = state;
+    then.state = step(w, now, &mut f[..a], &mut c[..b], &mut l[..d]);
+    then.kind = input::word_or(2);
     then
 }
 
-fn replay(kind: u32, now: Playing, all: &mut [f32; 6143], counts: &mut [u64; 1023]) -> Playing {
-    let mut w = [0u64; 16];
-    if kind == 0 {
-        input::words(16, 0, &mut w);
-        return play(&w, kind, started(&w), all, counts);
+fn replay(now: Playing, f: &mut [f32; 6143], c: &mut [u64; 1023], l: &mut [u8; 257]) -> Playing {
+    let mut w = [0u64; 17];
+    if now.kind == 0 {
+        input::words(17, 0, &mut w);
+        return play(&w, started(&w), f, c, l);
     }
-    input::words(4, 0, &mut w);
-    play(&w, kind, now, all, counts)
+    input::words(5, 0, &mut w);
+    play(&w, now, f, c, l)
 }
 
 // A proved loop has to end, and nothing says that the input does: the count is one that no run uses up.
 fn main() {
     let mut floats = [7.0f32; 6143];
     let mut counters = [7u64; 1023];
-    let mut now = started(&[0; 16]);
-    let mut kind = input::word_or(2);
+    let mut labels = [7u8; 257];
+    let mut now = started(&[0; 17]);
+    now.kind = input::word_or(2);
     let mut records = u64::MAX;
-    while records > 0 && kind < 2 {
-        now = replay(kind, now, &mut floats, &mut counters);
-        kind = input::word_or(2);
+    while records > 0 && now.kind < 2 {
+        now = replay(now, &mut floats, &mut counters, &mut labels);
         records -= 1;
     }
 }

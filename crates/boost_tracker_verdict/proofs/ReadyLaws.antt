@@ -6,26 +6,28 @@ use Prim.Native.Nat.{ℕ, _+_, _*_, _/_, _≤_, _<_, max}
 use native.Mathlib.Omega.{arith}
 use lib.Dec.{leb, ltb, eqb}
 use lib.ListN.{length, getD}
-use lib.Ieee.{Float}
 use lib.Ieee.Scale.{finite}
 use borrow.Author.Tests.{ltb-false, leb-true, leb-false, not-false}
 use Rattle.laws.specs.Choose.{cond-no}
 use Rattle.laws.specs.Tests.{and-left, and-right, or-none}
 use Rattle.laws.specs.Scan.{lowest}
 use Rattle.laws.specs.Every.{every, every-at, lowest-none}
+use Rattle.labels.specs.Label.{unlabelledAt, unlabelled}
 use Rattle.strack.specs.declared.rect.Xyxy.{Xyxy}
 use Rattle.strack_filter.specs.KalmanFilter.{updatable}
 use Rattle.strack.specs.Strack.{predict, update}
 use Rattle.strack.proofs.Laws.{update-accepted, update-refused}
 use Rattle.records.specs.TrackRecord.{trackBytes}
 use Rattle.boost_tracker_table.specs.declared.settings.Settings.{Settings}
-use Rattle.boost_tracker_table.specs.Table.{Track, floatsOf, blank, capacity, tracks}
+use Rattle.boost_tracker_table.specs.Table.{Track, floatsOf, blank}
+use Rattle.boost_tracker_table.specs.Lent.{Table, placesOf, tracksIn}
 use Rattle.boost_tracker_table.proofs.Laws.{capacity-room, tracks-many}
 use Rattle.boost_tracker_verdict.specs.declared.refusal.Refusal.{Refusal}
-use Rattle.boost_tracker_verdict.specs.declared.refusal.Refusal.the-variants.{TableNotSound, TrackNotWorkable, SettingNotFinite, TooManyBoxes, TableFull, BadBox, TooManyFrames, OutputShort, WorkShort}
+use Rattle.boost_tracker_verdict.specs.declared.refusal.Refusal.the-variants.{TableNotSound, TrackNotLabelled, TrackNotWorkable, SettingNotFinite, TooManyBoxes, TableFull, BadBox, BoxNotLabelled, TooManyFrames, OutputShort, WorkShort}
 use Rattle.boost_tracker_verdict.specs.declared.refusal.Verdict.{Verdict}
 use Rattle.boost_tracker_verdict.specs.declared.refusal.Verdict.the-variants.{Accepted, Refused}
 use Rattle.boost_tracker_verdict.specs.declared.sound.State.{State}
+use Rattle.boost_tracker_verdict.specs.Boxes.{Boxes}
 use Rattle.boost_tracker_verdict.specs.Sound.{rising, countersIn, sound, soundTable}
 use Rattle.boost_tracker_verdict.specs.Verdict.{workable, settingFloats, badBoxAt, boxesIn, ofTable, ofBoxes, ofRoom, orElse, verdict}
 use Rattle.boost_tracker_verdict.specs.Ready.{HeldTrack, Ready}
@@ -43,33 +45,38 @@ accepted-exactly t bbox = by-cases (updatable (predict t .kf)) refl
 refused : (why : Refusal) → Refused why ≡ Accepted → ⊥
 refused why q = let z : _≡_ {A = ℕ} 0 1 = cc in omega arith
 
-record TablePassed (s : Settings) (state : State) (f : List Float) (c : List ℕ) : Type 0 where
-  pub is-sound : soundTable state f c ≡ true
-  pub is-workable : every workable (tracks f c (state .count)) ≡ true
+record TablePassed (s : Settings) (state : State) (t : Table) : Type 0 where
+  pub is-sound : soundTable state t ≡ true
+  pub is-labelled : state .count ≤ lowest (unlabelledAt (t .labels)) (state .count)
+  pub is-workable : every workable (tracksIn t (state .count)) ≡ true
   pub is-finite : every finite (settingFloats s) ≡ true
 
-table-passed : (s : Settings) (state : State) (f : List Float) (c : List ℕ) → ofTable s state f c ≡ Accepted → TablePassed s state f c
+table-passed : (s : Settings) (state : State) (t : Table) → ofTable s state t ≡ Accepted → TablePassed s state t
 unfolding ofTable
-table-passed s state f c e =
-    let s₁ = cond-no (not (soundTable state f c)) (Refused TableNotSound) _ Accepted (refused TableNotSound) e in
-    let s₂ = cond-no (not (every workable (tracks f c (state .count)))) (Refused TrackNotWorkable) _ Accepted (refused TrackNotWorkable) (s₁ .1) in
-    let s₃ = cond-no (not (every finite (settingFloats s))) (Refused SettingNotFinite) Accepted Accepted (refused SettingNotFinite) (s₂ .1) in
-    record { is-sound = not-false _ (s₁ .0); is-workable = not-false _ (s₂ .0); is-finite = not-false _ (s₃ .0) }
+table-passed s state t e =
+    let s₁ = cond-no (not (soundTable state t)) (Refused TableNotSound) _ Accepted (refused TableNotSound) e in
+    let s₂ = cond-no (unlabelled (t .labels) (state .count)) (Refused TrackNotLabelled) _ Accepted (refused TrackNotLabelled) (s₁ .1) in
+    let s₃ = cond-no (not (every workable (tracksIn t (state .count)))) (Refused TrackNotWorkable) _ Accepted (refused TrackNotWorkable) (s₂ .1) in
+    let s₄ = cond-no (not (every finite (settingFloats s))) (Refused SettingNotFinite) Accepted Accepted (refused SettingNotFinite) (s₃ .1) in
+    record { is-sound = not-false _ (s₁ .0); is-labelled = ltb-false _ (state .count) (s₂ .0); is-workable = not-false _ (s₃ .0); is-finite = not-false _ (s₄ .0) }
 
-record BoxesPassed (held places : ℕ) (boxes : List Float) : Type 0 where
-  pub low : boxesIn boxes ≤ 255
-  pub placed : held + boxesIn boxes ≤ places
-  pub none-bad : boxesIn boxes ≤ lowest (badBoxAt boxes) (boxesIn boxes)
+record BoxesPassed (held places : ℕ) (boxes : Boxes) : Type 0 where
+  pub low : boxesIn (boxes .values) ≤ 255
+  pub placed : held + boxesIn (boxes .values) ≤ places
+  pub none-bad : boxesIn (boxes .values) ≤ lowest (badBoxAt (boxes .values)) (boxesIn (boxes .values))
+  pub none-unlabelled : boxesIn (boxes .values) ≤ lowest (unlabelledAt (boxes .labels)) (boxesIn (boxes .values))
 
-boxes-passed : (held places : ℕ) (boxes : List Float) → ofBoxes held places boxes ≡ Accepted → BoxesPassed held places boxes
+boxes-passed : (held places : ℕ) (boxes : Boxes) → ofBoxes held places boxes ≡ Accepted → BoxesPassed held places boxes
 unfolding ofBoxes
 boxes-passed held places boxes e =
-    let n : ℕ = boxesIn boxes in
-    let bad : ℕ = lowest (badBoxAt boxes) n in
+    let n : ℕ = boxesIn (boxes .values) in
+    let bad : ℕ = lowest (badBoxAt (boxes .values)) n in
+    let bare : ℕ = lowest (unlabelledAt (boxes .labels)) n in
     let s₁ = cond-no (ltb 255 n) (Refused TooManyBoxes) _ Accepted (refused TooManyBoxes) e in
     let s₂ = cond-no (ltb places (held + n)) (Refused TableFull) _ Accepted (refused TableFull) (s₁ .1) in
-    let s₃ = cond-no (ltb bad n) (Refused (BadBox bad)) Accepted Accepted (refused (BadBox bad)) (s₂ .1) in
-    record { low = ltb-false 255 n (s₁ .0); placed = ltb-false places (held + n) (s₂ .0); none-bad = ltb-false bad n (s₃ .0) }
+    let s₃ = cond-no (ltb bad n) (Refused (BadBox bad)) _ Accepted (refused (BadBox bad)) (s₂ .1) in
+    let s₄ = cond-no (ltb bare n) (Refused (BoxNotLabelled bare)) Accepted Accepted (refused (BoxNotLabelled bare)) (s₃ .1) in
+    record { low = ltb-false 255 n (s₁ .0); placed = ltb-false places (held + n) (s₂ .0); none-bad = ltb-false bad n (s₃ .0); none-unlabelled = ltb-false bare n (s₄ .0) }
 
 record RoomPassed (held n frames out work64 work32 : ℕ) : Type 0 where
   pub few-frames : frames < 2147483647
@@ -117,12 +124,12 @@ sound-parts places state ts e =
 
 -- ---- what the second and the third group of tests need of those before
 
-pub held-few : (s : Settings) (state : State) (f : List Float) (c : List ℕ) → ofTable s state f c ≡ Accepted → state .count ≤ 255
-held-few s state f c e =
-    let within = sound-parts _ state _ (table-passed s state f c e .is-sound) .within in
+pub held-few : (s : Settings) (state : State) (t : Table) → ofTable s state t ≡ Accepted → state .count ≤ 255
+held-few s state t e =
+    let within = sound-parts _ state _ (table-passed s state t e .is-sound) .within in
     omega arith
 
-pub boxes-few : (held places : ℕ) (boxes : List Float) → ofBoxes held places boxes ≡ Accepted → boxesIn boxes ≤ 255
+pub boxes-few : (held places : ℕ) (boxes : Boxes) → ofBoxes held places boxes ≡ Accepted → boxesIn (boxes .values) ≤ 255
 boxes-few held places boxes e = boxes-passed held places boxes e .low
 
 -- ---- the whole
@@ -148,21 +155,23 @@ held-track state ts i h w k n =
       correctable = and-right (every finite (floatsOf t)) _ works;
     }
 
-pub ready : (s : Settings) (state : State) (f : List Float) (c : List ℕ) (boxes : List Float) (out work64 work32 : ℕ) → verdict s state f c boxes out work64 work32 ≡ Accepted
-    → Ready s state f c boxes out work64 work32
+pub ready : (s : Settings) (state : State) (t : Table) (boxes : Boxes) (out work64 work32 : ℕ) → verdict s state t boxes out work64 work32 ≡ Accepted → Ready s state t boxes out work64 work32
 unfolding verdict
-ready s state f c boxes out work64 work32 e =
-    let split = both (ofTable s state f c) _ e in
-    let rest = both (ofBoxes (state .count) (capacity (length f) (length c)) boxes) _ (split .1) in
-    let table = table-passed s state f c (split .0) in
+ready s state t boxes out work64 work32 e =
+    let held : ℕ = state .count in
+    let n : ℕ = boxesIn (boxes .values) in
+    let split = both (ofTable s state t) _ e in
+    let rest = both (ofBoxes held (placesOf t) boxes) _ (split .1) in
+    let table = table-passed s state t (split .0) in
     let parts = sound-parts _ state _ (table .is-sound) in
     let box = boxes-passed _ _ boxes (rest .0) in
     let space = room-passed _ _ _ out work64 work32 (rest .1) in
-    let many : length (tracks f c (state .count)) ≡ state .count = tracks-many f c (state .count) (parts .within) in
+    let within = parts .within in
+    let many : length (tracksIn t held) ≡ held = tracks-many (t .floats) (t .counters) held (omega (arith, within)) in
     let records = space .records in
     record {
-      room = capacity-room (length f) (length c);
-      held = parts .within;
+      room = capacity-room (length (t .floats)) (length (t .counters));
+      held = within;
       boxes-low = box .low;
       boxes-in = omega arith;
       space = box .placed;
@@ -173,7 +182,9 @@ ready s state f c boxes out work64 work32 e =
       ids-low = parts .last-low;
       many = many;
       ids-rise = parts .rises;
-      each = λ i h. held-track state (tracks f c (state .count)) i (rw many h) (table .is-workable) (parts .known-ids) (parts .counters-low);
+      each = λ i h. held-track state (tracksIn t held) i (rw many h) (table .is-workable) (parts .known-ids) (parts .counters-low);
       settings-finite = table .is-finite;
-      good = lowest-none (badBoxAt boxes) (boxesIn boxes) (box .none-bad);
+      good = lowest-none (badBoxAt (boxes .values)) n (box .none-bad);
+      labels-good = λ j h. not-false _ (lowest-none (unlabelledAt (t .labels)) held (table .is-labelled) j h);
+      box-labels-good = λ i h. not-false _ (lowest-none (unlabelledAt (boxes .labels)) n (box .none-unlabelled) i h);
     }

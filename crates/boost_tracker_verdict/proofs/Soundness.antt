@@ -4,13 +4,11 @@ use mathlib.Core.Bool.{Bool, true, false, _&&_}
 use mathlib.Core.List.{List, [], _∷_}
 use Prim.Native.Nat.{ℕ, _*_, _≤_, _<_}
 use lib.Dec.{leb, ltb}
-use lib.ListN.{length}
-use lib.Ieee.{Float}
 use borrow.Author.Tests.{le-leb, lt-leb}
 use Rattle.laws.specs.Every.{every, chain}
 use Rattle.boost_tracker_verdict.specs.declared.sound.State.{State}
-use Rattle.boost_tracker_table.specs.Table.{Track, capacity, tracks}
-use Rattle.boost_tracker_verdict.specs.Sound.{rising, countersIn, sound, soundTable}
+use Rattle.boost_tracker_table.specs.Table.{Track}
+use Rattle.boost_tracker_verdict.specs.Sound.{rising, countersIn, sound}
 use Rattle.boost_tracker_verdict.specs.Private.{orderly, idOf}
 
 -- the tests of one track and of the rest, sorted by kind
@@ -38,20 +36,19 @@ third true false false c = refl
 third false a true c = refl
 third false a false c = refl
 
-module _ (s : State) (f : List Float) (c : List ℕ) where
-  pub sound-is : soundTable s f c ≡ (leb (s .count) (capacity (length f) (length c)) && (leb (s .last) (255 * s .frames) && chain (orderly (s .last) (s .frames)) idOf 0 (tracks f c (s .count))))
+module _ (s : State) (places : ℕ) (ts : List Track) where
+  pub sound-is : sound places s ts ≡ (leb (s .count) places && (leb (s .last) (255 * s .frames) && chain (orderly (s .last) (s .frames)) idOf 0 ts))
   unfolding sound
   sound-is =
-      ap (λ (b : Bool). leb (s .count) (capacity (length f) (length c)) && b)
-      (third (rising 0 (tracks f c (s .count))) (every (λ t. leb (t .id) (s .last)) (tracks f c (s .count))) (leb (s .last) (255 * s .frames)) (every (countersIn (s .frames)) (tracks f c (s .count)))
-      ∙ ap (λ (b : Bool). leb (s .last) (255 * s .frames) && b) (sym (chain-kinds (s .last) (s .frames) 0 (tracks f c (s .count)))))
+      ap (λ (b : Bool). leb (s .count) places && b)
+      (third (rising 0 ts) (every (λ t. leb (t .id) (s .last)) ts) (leb (s .last) (255 * s .frames)) (every (countersIn (s .frames)) ts)
+      ∙ ap (λ (b : Bool). leb (s .last) (255 * s .frames) && b) (sym (chain-kinds (s .last) (s .frames) 0 ts)))
 
-  pub too-many : capacity (length f) (length c) < s .count → false ≡ soundTable s f c
-  too-many h = sym (sound-is ∙ rw (lt-leb (s .count) (capacity (length f) (length c)) h))
+  pub too-many : places < s .count → false ≡ sound places s ts
+  too-many h = sym (sound-is ∙ rw (lt-leb (s .count) places h))
 
-  pub too-high : s .count ≤ capacity (length f) (length c) → leb (s .last) (255 * s .frames) ≡ false → false ≡ soundTable s f c
-  too-high h e = sym (sound-is ∙ rw (le-leb (s .count) (capacity (length f) (length c)) h, e))
+  pub too-high : s .count ≤ places → leb (s .last) (255 * s .frames) ≡ false → false ≡ sound places s ts
+  too-high h e = sym (sound-is ∙ rw (le-leb (s .count) places h, e))
 
-  pub passed : s .count ≤ capacity (length f) (length c) → leb (s .last) (255 * s .frames) ≡ true
-      → chain (orderly (s .last) (s .frames)) idOf 0 (tracks f c (s .count)) ≡ soundTable s f c
-  passed h e = sym (sound-is ∙ rw (le-leb (s .count) (capacity (length f) (length c)) h, e))
+  pub passed : s .count ≤ places → leb (s .last) (255 * s .frames) ≡ true → chain (orderly (s .last) (s .frames)) idOf 0 ts ≡ sound places s ts
+  passed h e = sym (sound-is ∙ rw (le-leb (s .count) places h, e))

@@ -1,7 +1,8 @@
 -- Document 01, "When a call is turned down", Frame: 11 table not sound; 12 a float of a held track not finite, or a predicted A + R not positive and finite; 13 a float setting not finite;
 -- 14 more than 255 boxes; 15 held tracks plus boxes above the capacity; 16 a box with a value not finite, width or height not above 0, left, top, width or height beyond 65536 in magnitude,
 -- or score outside 0 to 1; 17 frame count 2147483647 or more; 18 output lent for fewer than held plus boxes records; 19 work slices below n × n f64 or 4 × n × n f32, n the larger of held and boxes.
--- The lowest number that applies is said. A box is `boxValues` floats of a slice, a record `trackBytes` bytes, and a rest is not looked at.
+-- Document 02, N2: 10 a label other than 1 to 3 of a held track, after 11 and before 12; 20 such a label in a box, with the lowest such index, after 16 and before 17.
+-- The first that applies in the order 11, 10, 12 to 16, 20, 17, 18, 19 is said. A box is `boxValues` floats of a slice, a record `trackBytes` bytes, and a rest is not looked at.
 use mathlib.Core.Bool.{Bool, cond, not, _&&_, _||_}
 use mathlib.Core.List.{List, [], _∷_}
 use Prim.Native.Nat.{ℕ, _+_, _*_, _/_, max}
@@ -14,38 +15,45 @@ use Rattle.laws.specs.Every.{every}
 use Rattle.floats.specs.Single.{plusZero, one}
 use Rattle.strack_filter.specs.KalmanFilter.{updatable}
 use Rattle.strack.specs.Strack.{predict}
+use Rattle.labels.specs.Label.{unlabelledAt, unlabelled}
 use Rattle.records.specs.TrackRecord.{trackBytes}
 use Rattle.records.specs.BoxRecord.{boxValues}
 use Rattle.boost_tracker_verdict.specs.declared.refusal.Refusal.{Refusal}
-use Rattle.boost_tracker_verdict.specs.declared.refusal.Refusal.the-variants.{TableNotSound, TrackNotWorkable, SettingNotFinite, TooManyBoxes, TableFull, BadBox, TooManyFrames, OutputShort, WorkShort}
+use Rattle.boost_tracker_verdict.specs.declared.refusal.Refusal.the-variants.{TableNotSound, TrackNotLabelled, TrackNotWorkable, SettingNotFinite, TooManyBoxes, TableFull, BadBox, BoxNotLabelled, TooManyFrames, OutputShort, WorkShort}
 use Rattle.boost_tracker_verdict.specs.declared.refusal.Verdict.{Verdict}
 use Rattle.boost_tracker_verdict.specs.declared.refusal.Verdict.the-variants.{Accepted, Refused}
 use Rattle.boost_tracker_table.specs.declared.settings.Settings.{Settings}
 use Rattle.boost_tracker_verdict.specs.declared.sound.State.{State}
-use Rattle.boost_tracker_table.specs.Table.{Track, floatsOf, capacity, tracks}
+use Rattle.boost_tracker_table.specs.Table.{Track, floatsOf}
+use Rattle.boost_tracker_table.specs.Lent.{Table, placesOf, tracksIn}
+use Rattle.boost_tracker_verdict.specs.Boxes.{Boxes}
 use Rattle.boost_tracker_verdict.specs.Sound.{soundTable}
 
 -- ---- the numbers
 
 abbrev pub number : Refusal → ℕ
 number TableNotSound = 11
+number TrackNotLabelled = 10
 number TrackNotWorkable = 12
 number SettingNotFinite = 13
 number TooManyBoxes = 14
 number TableFull = 15
 number (BadBox i) = 16
+number (BoxNotLabelled i) = 20
 number TooManyFrames = 17
 number OutputShort = 18
 number WorkShort = 19
 
--- what goes along: with 16 the index of the box
+-- what goes along: with 16 and 20 the index of the box
 abbrev pub index : Refusal → ℕ
 index TableNotSound = 0
+index TrackNotLabelled = 0
 index TrackNotWorkable = 0
 index SettingNotFinite = 0
 index TooManyBoxes = 0
 index TableFull = 0
 index (BadBox i) = i
+index (BoxNotLabelled i) = i
 index TooManyFrames = 0
 index OutputShort = 0
 index WorkShort = 0
@@ -90,22 +98,24 @@ badBoxAt b i = badBox (getD b (i * boxValues) nan) (getD b (i * boxValues + 1) n
 -- ---- the verdict
 
 abbrev pub boxesIn : List Float → ℕ
-boxesIn boxes = length boxes / boxValues
+boxesIn values = length values / boxValues
 
-unfoldable pub ofTable : Settings → State → List Float → List ℕ → Verdict
-ofTable s state f c =
-    cond (not (soundTable state f c)) (Refused TableNotSound)
-    (cond (not (every workable (tracks f c (state .count)))) (Refused TrackNotWorkable)
+unfoldable pub ofTable : Settings → State → Table → Verdict
+ofTable s state t =
+    cond (not (soundTable state t)) (Refused TableNotSound)
+    (cond (unlabelled (t .labels) (state .count)) (Refused TrackNotLabelled)
+    (cond (not (every workable (tracksIn t (state .count)))) (Refused TrackNotWorkable)
     (cond (not (every finite (settingFloats s))) (Refused SettingNotFinite)
-    Accepted))
+    Accepted)))
 
-unfoldable pub ofBoxes : ℕ → ℕ → List Float → Verdict
+unfoldable pub ofBoxes : ℕ → ℕ → Boxes → Verdict
 ofBoxes held places boxes =
-    let n = boxesIn boxes in
+    let n = boxesIn (boxes .values) in
     cond (ltb 255 n) (Refused TooManyBoxes)
     (cond (ltb places (held + n)) (Refused TableFull)
-    (cond (ltb (lowest (badBoxAt boxes) n) n) (Refused (BadBox (lowest (badBoxAt boxes) n)))
-    Accepted))
+    (cond (ltb (lowest (badBoxAt (boxes .values)) n) n) (Refused (BadBox (lowest (badBoxAt (boxes .values)) n)))
+    (cond (unlabelled (boxes .labels) n) (Refused (BoxNotLabelled (lowest (unlabelledAt (boxes .labels)) n)))
+    Accepted)))
 
 unfoldable pub ofRoom : ℕ → ℕ → ℕ → ℕ → ℕ → ℕ → Verdict
 ofRoom held n frames out work64 work32 =
@@ -119,8 +129,8 @@ abbrev pub orElse : Verdict → Verdict → Verdict
 orElse Accepted later = later
 orElse (Refused why) later = Refused why
 
-unfoldable pub verdict : Settings → State → List Float → List ℕ → List Float → ℕ → ℕ → ℕ → Verdict
-verdict s state f c boxes out work64 work32 =
-    orElse (ofTable s state f c)
-    (orElse (ofBoxes (state .count) (capacity (length f) (length c)) boxes)
-    (ofRoom (state .count) (boxesIn boxes) (state .frames) out work64 work32))
+unfoldable pub verdict : Settings → State → Table → Boxes → ℕ → ℕ → ℕ → Verdict
+verdict s state t boxes out work64 work32 =
+    orElse (ofTable s state t)
+    (orElse (ofBoxes (state .count) (placesOf t) boxes)
+    (ofRoom (state .count) (boxesIn (boxes .values)) (state .frames) out work64 work32))

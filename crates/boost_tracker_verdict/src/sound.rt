@@ -1,14 +1,15 @@
 // Whether a lent table is sound: document 01, "Records and limits".
-use boost_tracker_table::capacity;
 use boost_tracker_table::load;
 use boost_tracker_table::placed;
+use boost_tracker_table::places_in;
 use strack::strack::KalmanBoxTracker;
 ghost use mathlib.Core.Path.{_≡_};
 ghost use Prim.Native.Nat.{_*_};
 ghost use lib.Dec.{leb};
 ghost use Rattle.laws.specs.Every.{chain};
-ghost use Rattle.boost_tracker_table.specs.Table.{tracks};
-ghost use Rattle.boost_tracker_verdict.specs.Sound.{soundTable};
+ghost use lib.ListN.{length};
+ghost use Rattle.boost_tracker_table.specs.Table.{placesIn, tracks};
+ghost use Rattle.boost_tracker_verdict.specs.Sound.{sound};
 ghost use Rattle.boost_tracker_verdict.specs.Private.{orderly, idOf};
 
 // What stands beside the table: the held tracks, the last id given, the frames worked.
@@ -61,11 +62,12 @@ fn all_orderly(floats: &[f32], counters: &[u64], held: usize, last: u64, frames:
     true
 }
 
-pub(crate) fn sound(state: State, floats: &[f32], counters: &[u64]) -> bool
-    ensures { λ r. ⌜ r ≡ soundTable state (now (floats .entry)) (now (counters .entry)) ⌝ }
+// The labels are given by their number.
+pub(crate) fn sound(state: State, floats: &[f32], counters: &[u64], labels: usize) -> bool
+    ensures { λ r. ⌜ r ≡ sound (placesIn (length (now (floats .entry))) (length (now (counters .entry))) labels) state (tracks (now (floats .entry)) (now (counters .entry)) (state .count)) ⌝ }
 {
     let held = state.count;
-    if capacity(floats.len(), counters.len()) < held {
+    if places_in(floats.len(), counters.len(), labels) < held {
         return false;
     }
     if !ids_few(state.last, state.frames) {

@@ -1,4 +1,4 @@
-// The verdict on a frame, before any of its work: the first of document 01's refusals that applies.
+// The verdict on a frame, before any of its work: the first of its refusals that applies.
 use crate::bad_boxes::first_bad_box;
 use crate::refusal::Refusal;
 use crate::refusal::Verdict;
@@ -7,22 +7,35 @@ use crate::sound::sound;
 use crate::workable::all_workable;
 use crate::workable::finite_settings;
 use boost_tracker_table::Settings;
-use boost_tracker_table::capacity;
+use boost_tracker_table::places_in;
+use labels::first_unlabelled;
 use records::BOX_VALUES;
 use records::TRACK_BYTES;
 use refusals::larger;
 ghost use mathlib.Core.Path.{_≡_};
 ghost use Prim.Native.Nat.{_/_, _≤_};
+ghost use Rattle.boost_tracker_table.specs.Lent.{tableWith};
+ghost use Rattle.boost_tracker_verdict.specs.Boxes.{boxesWith};
 ghost use Rattle.boost_tracker_verdict.specs.Verdict as Spec;
 
-// 11, 12, 13.
-fn of_table(settings: Settings, state: State, floats: &[f32], counters: &[u64]) -> Verdict
-    ensures { λ r. ⌜ r ≡ Spec.ofTable settings state (now (floats .entry)) (now (counters .entry)) ⌝ }
+// 11, 10, 12, 13.
+fn of_table(
+    settings: Settings,
+    state: State,
+    floats: &[f32],
+    counters: &[u64],
+    labels: &[u8],
+) -> Verdict
+    ensures { λ r. ⌜ r ≡ Spec.ofTable settings state (tableWith (now (floats .entry)) (now (counters .entry)) (now (labels .entry))) ⌝ }
 {
-    if !sound(state, floats, counters) {
+    if !sound(state, floats, counters, labels.len()) {
         return Verdict::Refused(Refusal::TableNotSound);
     }
-    if !all_workable(floats, counters, state.count) {
+    let held = state.count;
+    if first_unlabelled(labels, held) < held {
+        return Verdict::Refused(Refusal::TrackNotLabelled);
+    }
+    if !all_workable(floats, counters, held) {
         return Verdict::Refused(Refusal::TrackNotWorkable);
     }
     if !finite_settings(settings) {
@@ -31,10 +44,10 @@ fn of_table(settings: Settings, state: State, floats: &[f32], counters: &[u64]) 
     Verdict::Accepted
 }
 
-// 14, 15, 16.
-fn of_boxes(held: usize, places: usize, boxes: &[f32]) -> Verdict
+// 14, 15, 16, 20.
+fn of_boxes(held: usize, places: usize, boxes: &[f32], labels: &[u8]) -> Verdict
     requires { ⌜ held ≤ 255 ⌝ }
-    ensures { λ r. ⌜ r ≡ Spec.ofBoxes held places (now (boxes .entry)) ⌝ }
+    ensures { λ r. ⌜ r ≡ Spec.ofBoxes held places (boxesWith (now (boxes .entry)) (now (labels .entry))) ⌝ }
 {
     let n = boxes.len() / BOX_VALUES;
     if 255 < n {
@@ -46,6 +59,10 @@ fn of_boxes(held: usize, places: usize, boxes: &[f32]) -> Verdict
     let bad = first_bad_box(boxes, n);
     if bad < n {
         return Verdict::Refused(Refusal::BadBox(bad));
+    }
+    let unlabelled = first_unlabelled(labels, n);
+    if unlabelled < n {
+        return Verdict::Refused(Refusal::BoxNotLabelled(unlabelled));
     }
     Verdict::Accepted
 }
@@ -74,19 +91,22 @@ pub fn frame_verdict(
     state: State,
     floats: &[f32],
     counters: &[u64],
+    labels: &[u8],
     boxes: &[f32],
+    box_labels: &[u8],
     out: usize,
     work64: usize,
     work32: usize,
 ) -> Verdict
-    ensures { λ r. ⌜ r ≡ Spec.verdict settings state (now (floats .entry)) (now (counters .entry)) (now (boxes .entry)) out work64 work32 ⌝ }
+    ensures { λ r. ⌜ r ≡ Spec.verdict settings state (tableWith (now (floats .entry)) (now (counters .entry)) (now (labels .entry))) (boxesWith (now (boxes .entry)) (now («box_labels» .entry))) out work64 work32 ⌝ }
 {
-    let of_table = of_table(settings, state, floats, counters);
+    let of_table = of_table(settings, state, floats, counters, labels);
     let Verdict::Accepted = of_table else {
         return of_table;
     };
     let held = state.count;
-    let of_boxes = of_boxes(held, capacity(floats.len(), counters.len()), boxes);
+    let places = places_in(floats.len(), counters.len(), labels.len());
+    let of_boxes = of_boxes(held, places, boxes, box_labels);
     let Verdict::Accepted = of_boxes else {
         return of_boxes;
     };

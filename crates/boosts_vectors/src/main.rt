@@ -1,13 +1,10 @@
-// Replays the boosts and the pairing of frames, each on what the published tracker has there, and prints a line for
-// each: digests of the scores after DLO and after DUO, how many boxes have a score of det_thresh and more and a digest of
-// which; of these the distances to the tracks, and what associate answers and leaves. oracle/boosts/run writes both
-// files.
-//
-// A record is 24 words: the kind 1; flags (1 DLO, 2 DUO, 4 rich, 8 soft, 16 varying, 32 shape v1), det_thresh,
-// iou_threshold, the three weights, dlo_boost_coef, frame count; boxes, tracks, retained boxes; where seven lists of
-// floats end that follow: corners of the boxes, of the retained ones, their scores, corners of the tracks, confidences,
-// states, reciprocals of the variances; the cells of the distances, of the retained boxes' distances, and of a square
-// over the larger side. Then a title, the scores of the boxes, the times since update, and the seven lists.
+// Replays the boosts and the pairing of frames, each on what the published tracker has there, and prints a line for each: digests of the scores after DLO and
+// after DUO, how many boxes have a score of det_thresh and more and a digest of which; of these the distances to the tracks, and what associate answers and
+// leaves. oracle/boosts/run writes both files.
+// A record is 24 words: the kind 1; flags (1 DLO, 2 DUO, 4 rich, 8 soft, 16 varying, 32 shape v1), det_thresh, iou_threshold, the three weights,
+// dlo_boost_coef, frame count; boxes, tracks, retained boxes; where seven lists of floats end: corners of the boxes, of the retained ones, their scores,
+// corners of the tracks, confidences, states, reciprocals of the variances; the cells of the distances and of the retained boxes' distances. Then the times
+// since update, the seven lists, the labels of the boxes, of the tracks and of the retained boxes, a byte each, a title, and the scores of the boxes.
 use vectors::digest;
 use vectors::floats::float;
 use vectors::input;
@@ -40,11 +37,12 @@ fn params(w: &[u64; 24]) -> assoc::AssociateParams {
 }
 
 // Both boosts, each over the distances that it reads: the scores after each, and which boxes are retained.
-fn boosted(line: Line, w: &[u64; 24], lists: &[f32], times: &[u32], given: [f32; 255]) -> Line {
-    let mut values = given;
+fn boosted(line: Line, w: &[u64; 24], lists: &[f32], ts: &[u32], k: &[u8], l: &[u8]) -> Line {
+    let mut values = [0.0f32; 255];
     let mut cells = [0.0f32; 65025];
     let scores = lent::floats(&mut values, w[9]);
     let work = lent::floats(&mut cells, w[19]);
+    input::floats(255, 0.0, scores);
     let n = w[9] as usize;
     let m = w[10] as usize;
     let a = part::floats(lists, 0, w[12]);
@@ -54,7 +52,7 @@ fn boosted(line: Line, w: &[u64; 24], lists: &[f32], times: &[u32], given: [f32;
     let s = part::floats(lists, w[17], w[18]);
     if (w[1] % 2 == 1) & (m > 0) {
         boost_tracker_dlo::get_mh_dist_matrix(n, m, a, x, s, work);
-        boost_tracker_dlo::dlo_confidence_boost(settings(w), n, m, a, t, c, times, work, scores);
+        boost_tracker_dlo::dlo_confidence_boost(settings(w), n, m, a, t, c, ts, k, l, work, scores);
     }
     let after_dlo = line.digest(digest::floats(digest::START, scores));
     if (w[1] / 2 % 2 == 1) & (m > 0) {
@@ -62,9 +60,8 @@ fn boosted(line: Line, w: &[u64; 24], lists: &[f32], times: &[u32], given: [f32;
         boost_tracker_duo::duo_confidence_boost(w[8], float(w[2]), n, m, a, work, scores);
     }
     let after_duo = after_dlo.digest(digest::floats(digest::START, scores));
-    after_duo
-        .number(w[11])
-        .digest(retained(float(w[2]), scores))
+    let counted = after_duo.number(w[11]);
+    counted.digest(retained(float(w[2]), scores))
 }
 
 // Joins the number of each score that is at least `least`.
@@ -90,7 +87,7 @@ fn answer(line: Line, answer: assoc::AssignmentAnswer) -> Line {
 }
 
 // The pairing of the retained boxes with the tracks, by their distances.
-fn paired(line: Line, w: &[u64; 24], lists: &[f32]) -> Line {
+fn paired(line: Line, w: &[u64; 24], lists: &[f32], k: &[u8], l: &[u8]) -> Line {
     let mut cells = [0.0f32; 65025];
     let mut pairs = [7777usize; 255];
     let mut more = [7777usize; 255];
@@ -98,7 +95,7 @@ fn paired(line: Line, w: &[u64; 24], lists: &[f32]) -> Line {
     let mut tracks = [7777usize; 255];
     let mut doubles = [0.0f64; 65025];
     let mut floats = [0.0f32; 260100];
-    let distance = lent::floats(&mut cells, w[20]);
+    let d = lent::floats(&mut cells, w[20]);
     let p = lent::numbers(&mut pairs, 255);
     let q = lent::numbers(&mut more, 255);
     let r = lent::numbers(&mut boxes, 255);
@@ -113,9 +110,9 @@ fn paired(line: Line, w: &[u64; 24], lists: &[f32]) -> Line {
     let c = part::floats(lists, w[15], w[16]);
     let x = part::floats(lists, w[16], w[17]);
     let y = part::floats(lists, w[17], w[18]);
-    boost_tracker_dlo::get_mh_dist_matrix(n, m, b, x, y, distance);
-    let measured = line.digest(digest::floats(digest::START, distance));
-    let said = assoc::associate(params(w), n, m, b, t, distance, c, e, p, q, r, s, u, v);
+    boost_tracker_dlo::get_mh_dist_matrix(n, m, b, x, y, d);
+    let measured = line.digest(digest::floats(digest::START, d));
+    let said = assoc::associate(params(w), n, m, b, t, d, c, e, k, l, p, q, r, s, u, v);
     let sum = digest::numbers(digest::numbers(digest::START, p), q);
     answer(measured, said).digest(digest::numbers(digest::numbers(sum, r), s))
 }
@@ -127,17 +124,20 @@ fn replay() -> bool {
     if w[0] != 1 {
         return false;
     }
-    let title = Line::titled().bar();
-    let mut scores = [0.0f32; 255];
-    let mut of_tracks = [0u32; 255];
+    let mut since = [0u32; 255];
     let mut floats = [0.0f32; 5610];
-    let times = lent::counts(&mut of_tracks, w[10]);
+    let mut of_boxes = [0u8; 255];
+    let mut of_tracks = [0u8; 255];
+    let mut of_kept = [0u8; 255];
+    let times = lent::counts(&mut since, w[10]);
     let lists = lent::floats(&mut floats, w[18]);
-    input::floats(w[9] as usize, 0.0, &mut scores);
     input::counts(255, 0, times);
     input::floats(5610, 0.0, lists);
-    let boosts = boosted(title, &w, lists, times, scores).bar();
-    paired(boosts, &w, lists).print();
+    let k = input::bytes(&mut of_boxes, w[9]);
+    let l = input::bytes(&mut of_tracks, w[10]);
+    let kept = input::bytes(&mut of_kept, w[11]);
+    let boosts = boosted(Line::titled().bar(), &w, lists, times, k, l).bar();
+    paired(boosts, &w, lists, kept, l).print();
     true
 }
 

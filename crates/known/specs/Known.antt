@@ -28,7 +28,7 @@ use Rattle.lapjv_definition.specs.Entry.{ownerOf, isFree, rowOf}
 use Rattle.lapjv_definition.specs.Lapjv.{roundsFrom, lapjv}
 use Rattle.lapjv_definition.specs.Path.{searchStep, searchFrom, findPathDense}
 use Rattle.assoc_matching.specs.Matching.{boxesOf, tracksOf, above, simple, simpleMatches, costCell, costVec, isErr, extract, extracted, Matched, matchDetections}
-use Rattle.assoc_assignment.specs.Assignment.{Assignment, linearAssignment}
+use Rattle.assoc_assignment.specs.Assignment.{Assignment, assignedBy, linearAssignment}
 
 abbrev whole : ℕ → Float
 whole n = ofInt binary32 (pos n)
@@ -79,7 +79,7 @@ rows =
 
 pub known : map (λ (row : List ℕ × List ℕ). row .0) rows ≡ map (λ (row : List ℕ × List ℕ). row .1) rows
 unfolding powi exp root confidence larger smaller intersection union ratio overlap
-    matchDetections above simple simpleMatches isErr verdictOf costCell costVec extract extracted linearAssignment joined laidRows tab sieve countWhere most
+    matchDetections above simple simpleMatches isErr verdictOf costCell costVec extract extracted assignedBy joined laidRows tab sieve countWhere most
     ownerOf isFree rowOf lapjv roundsFrom carrTwo carrTurn carrFrom twoFrom rowFrom rowsFrom colsFrom minFrom reduceFrom searchStep searchFrom findPathDense caFrom
     lt le eq isNan toBits ofBits ofFields ofInt add sub mul div neg sum round units odd climb size span trailingZeros
 known = refl

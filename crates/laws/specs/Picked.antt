@@ -7,8 +7,9 @@ use native.Mathlib.Nat.{le-refl}
 use native.Mathlib.Omega.{arith}
 use native.Mathlib.Decide.{ℕ-discrete}
 use lib.Dec.{eqb, ltb}
+use lib.ListN.{length, getD}
 use borrow.Author.Tests.{lt-ltb, eq-eqb, ne-eqb}
-use Rattle.laws.specs.Tab.{tab, indices}
+use Rattle.laws.specs.Tab.{tab, tab-of, map-tab, indices}
 use Rattle.laws.specs.Fold.{fold}
 use Rattle.laws.specs.Sieve.{sieve, sieve-more}
 use Rattle.laws.specs.Occurs.{occurs-sieve, occurs-indices}
@@ -57,6 +58,12 @@ module _ {X : Type 0} where
       by-cases : (b : Bool) → cond b (f x ∷ map f (sieve (λ y. p (f y)) xs)) (map f (sieve (λ y. p (f y)) xs)) ≡ map f (cond b (x ∷ sieve (λ y. p (f y)) xs) (sieve (λ y. p (f y)) xs))
       by-cases true = refl
       by-cases false = refl
+
+-- those that pass, by their places
+pub sieve-places : {X : Type 0} (p : X → Bool) (xs : List X) (d : X) → map (λ i. getD xs i d) (sieve (λ i. p (getD xs i d)) (indices (length xs))) ≡ sieve p xs
+sieve-places {X} p xs d =
+    let at : ℕ → X = λ i. getD xs i d in
+    sym (sieve-image p at (indices (length xs))) ∙ ap (sieve p) (map-tab at (λ i. i) (length xs) ∙ sym (tab-of at xs (length xs) d refl (λ i h. refl)))
 
 -- tests that agree below n
 pub picked-ext : (p q : ℕ → Bool) (n : ℕ) → ((j : ℕ) → j < n → p j ≡ q j) → sieve p (indices n) ≡ sieve q (indices n)

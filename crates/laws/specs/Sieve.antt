@@ -60,3 +60,11 @@ module _ {X : Type 0} (p : X → Bool) where
       by-cases true e zero h r = e
       by-cases true e (suc i) h r = r i d (le-of-suc-le-suc h)
       by-cases false e i h r = r i d h
+
+-- tests that agree on a list's elements keep the same
+pub sieve-agree : {X : Type 0} (p q : X → Bool) (xs : List X) (d : X) → ((i : ℕ) → i < length xs → p (getD xs i d) ≡ q (getD xs i d)) → sieve p xs ≡ sieve q xs
+unfolding sieve
+sieve-agree p q [] d e = refl
+sieve-agree p q (x ∷ xs) d e =
+    let first : p x ≡ q x = e 0 (omega arith) in
+    rw (first, sieve-agree p q xs d (λ i h. e (suc i) (omega arith)))

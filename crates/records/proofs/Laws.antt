@@ -31,7 +31,7 @@ use Rattle.records.specs.TrackRecord.{trackBytes, bytesOfTrack, trackOf,
 use Rattle.records.specs.Line.{line, lineBytes, refusedLine}
 use Rattle.records.proofs.Laws.Digits.{few-below, most-places, enough-places, fewest-places, readAs, read-digits}
 use Rattle.records.proofs.Laws.Lengths.{length-box, length-track, length-decimal, length-line, length-refused}
-use Rattle.records.proofs.Laws.Fields.{box-fields, track-fields}
+use Rattle.records.proofs.Laws.Fields.{box-fields, track-fields, five-then}
 use Rattle.records.proofs.Laws.Bytes.{value-le, float-le, settled, rejoin, le-part, settled-part}
 
 -- ---- a record that is written and read again is the same. The logic has one NaN, so this holds of every record that the code can hold, NaNs among its floats included.
@@ -43,6 +43,7 @@ pub record BoxFits (r : BoxRecord) : Type 0 where
   pub width : T (fits binary32 (r .width))
   pub height : T (fits binary32 (r .height))
   pub score : T (fits binary32 (r .score))
+  pub label : r .label < 2 ^ 8
 
 pub record TrackFits (t : TrackRecord) : Type 0 where
   pub frame : t .frame < 2 ^ 32
@@ -52,17 +53,19 @@ pub record TrackFits (t : TrackRecord) : Type 0 where
   pub width : T (fits binary32 (t .width))
   pub height : T (fits binary32 (t .height))
   pub confidence : T (fits binary32 (t .confidence))
+  pub label : t .label < 2 ^ 8
 
 pub box-decode : (r : BoxRecord) → BoxFits r → boxOf (bytesOfBox r) ≡ r
 unfolding littleEndian
 box-decode r h =
     box-fields (value-le 4 (r .frame) (h .frame)) (float-le (r .left) (h .left)) (float-le (r .top) (h .top)) (float-le (r .width) (h .width)) (float-le (r .height) (h .height)) (float-le (r .score) (h .score))
+    (value-le 1 (r .label) (h .label))
 
 pub track-decode : (t : TrackRecord) → TrackFits t → trackOf (bytesOfTrack t) ≡ t
 unfolding littleEndian
 track-decode t h =
     track-fields (value-le 4 (t .frame) (h .frame)) (value-le 8 (t .id) (h .id)) (float-le (t .left) (h .left)) (float-le (t .top) (h .top)) (float-le (t .width) (h .width)) (float-le (t .height) (h .height))
-    (float-le (t .confidence) (h .confidence))
+    (float-le (t .confidence) (h .confidence)) (value-le 1 (t .label) (h .label))
 
 -- record k of a slice that it was written into
 nth-part : (s k : ℕ) (xs l : List ℕ) → length xs ≡ s → k * s + s ≤ length l → part (k * s) s (splice l (k * s) xs) ≡ xs
@@ -86,15 +89,17 @@ track-written t k l h q =
 -- ---- bytes that are read and written again are the same, but for the four bytes of each f32 that are a NaN's pattern: they become those of the one NaN
 
 pub box-encode : (l : List ℕ) → AreBytes l → length l ≡ boxBytes
-    → bytesOfBox (boxOf l) ≡ part 0 4 l ++ (settled (part 4 4 l) ++ (settled (part 8 4 l) ++ (settled (part 12 4 l) ++ (settled (part 16 4 l) ++ settled (part 20 4 l)))))
+    → bytesOfBox (boxOf l) ≡ part 0 4 l ++ (settled (part 4 4 l) ++ (settled (part 8 4 l) ++ (settled (part 12 4 l) ++ (settled (part 16 4 l) ++ (settled (part 20 4 l) ++ part 24 1 l)))))
 box-encode l h n =
-    rw (le-part 0 4 l h (omega arith), settled-part 4 l h (omega arith), settled-part 8 l h (omega arith), settled-part 12 l h (omega arith), settled-part 16 l h (omega arith), settled-part 20 l h (omega arith))
+    rw (le-part 0 4 l h (omega arith), settled-part 4 l h (omega arith), settled-part 8 l h (omega arith), settled-part 12 l h (omega arith), settled-part 16 l h (omega arith), settled-part 20 l h (omega arith), le-part 24 1 l h (omega arith))
+    (ap (λ (xs : List ℕ). part 0 4 l ++ xs) (five-then (settled (part 4 4 l)) (settled (part 8 4 l)) (settled (part 12 4 l)) (settled (part 16 4 l)) (settled (part 20 4 l)) (part 24 1 l)))
 
 pub track-encode : (l : List ℕ) → AreBytes l → length l ≡ trackBytes
     → bytesOfTrack (trackOf l)
-    ≡ part 0 4 l ++ (part 4 8 l ++ (settled (part 12 4 l) ++ (settled (part 16 4 l) ++ (settled (part 20 4 l) ++ (settled (part 24 4 l) ++ settled (part 28 4 l))))))
+    ≡ part 0 4 l ++ (part 4 8 l ++ (settled (part 12 4 l) ++ (settled (part 16 4 l) ++ (settled (part 20 4 l) ++ (settled (part 24 4 l) ++ (settled (part 28 4 l) ++ part 32 1 l))))))
 track-encode l h n =
-    rw (le-part 0 4 l h (omega arith), le-part 4 8 l h (omega arith), settled-part 12 l h (omega arith), settled-part 16 l h (omega arith), settled-part 20 l h (omega arith), settled-part 24 l h (omega arith), settled-part 28 l h (omega arith))
+    rw (le-part 0 4 l h (omega arith), le-part 4 8 l h (omega arith), settled-part 12 l h (omega arith), settled-part 16 l h (omega arith), settled-part 20 l h (omega arith), settled-part 24 l h (omega arith), settled-part 28 l h (omega arith), le-part 32 1 l h (omega arith))
+    (ap (λ (xs : List ℕ). part 0 4 l ++ (part 4 8 l ++ xs)) (five-then (settled (part 12 4 l)) (settled (part 16 4 l)) (settled (part 20 4 l)) (settled (part 24 4 l)) (settled (part 28 4 l)) (part 32 1 l)))
 
 -- none of the five f32 from `at` on is a NaN's pattern
 pub record NoNans (at : ℕ) (l : List ℕ) : Type 0 where
@@ -107,12 +112,12 @@ pub record NoNans (at : ℕ) (l : List ℕ) : Type 0 where
 pub box-same : (l : List ℕ) → AreBytes l → length l ≡ boxBytes → NoNans 4 l → bytesOfBox (boxOf l) ≡ l
 box-same l h n m =
     box-encode l h n
-    ∙ rw (m .first, m .second, m .third, m .fourth, m .fifth, rejoin l 16 4 4, rejoin l 12 4 8, rejoin l 8 4 12, rejoin l 4 4 16, rejoin l 0 4 20) (take-all boxBytes l (le-of-eq n))
+    ∙ rw (m .first, m .second, m .third, m .fourth, m .fifth, rejoin l 20 4 1, rejoin l 16 4 5, rejoin l 12 4 9, rejoin l 8 4 13, rejoin l 4 4 17, rejoin l 0 4 21) (take-all boxBytes l (le-of-eq n))
 
 pub track-same : (l : List ℕ) → AreBytes l → length l ≡ trackBytes → NoNans 12 l → bytesOfTrack (trackOf l) ≡ l
 track-same l h n m =
     track-encode l h n
-    ∙ rw (m .first, m .second, m .third, m .fourth, m .fifth, rejoin l 24 4 4, rejoin l 20 4 8, rejoin l 16 4 12, rejoin l 12 4 16, rejoin l 4 8 20, rejoin l 0 4 28) (take-all trackBytes l (le-of-eq n))
+    ∙ rw (m .first, m .second, m .third, m .fourth, m .fifth, rejoin l 28 4 1, rejoin l 24 4 5, rejoin l 20 4 9, rejoin l 16 4 13, rejoin l 12 4 17, rejoin l 4 8 21, rejoin l 0 4 29) (take-all trackBytes l (le-of-eq n))
 
 -- ---- digits are read back as the number; a number of two digits or more has no zero in front
 

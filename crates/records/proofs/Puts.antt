@@ -2,7 +2,7 @@
 use mathlib.Core.Path.{_≡_, refl, ap, _∙_}
 use mathlib.Core.Bool.{Bool, true, false}
 use mathlib.Core.List.{List, [], _∷_, _++_, append-nil}
-use Prim.Native.Nat.{ℕ, _+_, _-_, _≤_, _<_}
+use Prim.Native.Nat.{ℕ, _+_, _-_, _%_, _≤_, _<_}
 use native.Mathlib.Numerals.{add-one}
 use native.Mathlib.Omega.{arith}
 use lib.ListN.{length, take, drop, set, length-append}
@@ -13,11 +13,21 @@ use borrow.Rule.Slice.PartMut.{putMid, mid-len}
 use Rattle.laws.specs.Splice.{splice, length-splice, mid-splice, splice-splice}
 use Rattle.records.specs.declared.Written.the-variants.{Bytes, Short}
 use Rattle.records.specs.Written.{Writes, WritesText}
+use Rattle.records.specs.Field.{littleEndian}
 use Rattle.records.specs.Private.{Put}
 
 -- a part of k bytes that was lent, and came back as xs
 pub put-part : (l vs xs : List ℕ) (at k : ℕ) → at + k ≤ length l → vs ≡ xs → length xs ≡ k → Put at xs l (at + k) (putMid at (at + k - at) l vs)
 put-part l vs xs at k h e n = record { ends = rw n; room = h; cells = mid-splice l at k vs (ap length e ∙ n) ∙ ap (splice l at) e }
+
+-- one cell stored
+pub put-one : (l : List ℕ) (at v : ℕ) → at < length l → Put at (v ∷ []) l (at + 1) (set l at v)
+put-one l at v h = record { ends = refl; room = omega arith; cells = rw add-one (set-split l at v h) }
+
+-- a number below 256 is one byte
+pub put-small : (l : List ℕ) (at v : ℕ) → at + 1 ≤ length l → v < 256 → Put at (littleEndian 1 v) l (at + 1) (set l at v)
+unfolding littleEndian
+put-small l at v h small = let e : v % 256 ≡ v = omega arith in rw e (put-one l at v (omega arith))
 
 -- how long the part is
 pub part-length : (l : List ℕ) (at k : ℕ) → at + k ≤ length l → length (take (at + k - at) (drop at l)) ≡ k
@@ -46,10 +56,7 @@ module _ {at next : ℕ} {xs l out : List ℕ} (p : Put at xs l next out) where
 
   -- one byte more
   pub put-byte : (v : ℕ) → next < length l → Put at (xs ++ (v ∷ [])) l (next + 1) (set out next v)
-  put-byte v h = put-put one
-    where
-      one : Put next (v ∷ []) out (next + 1) (set out next v)
-      one = let s = put-length in record { ends = refl; room = omega arith; cells = rw add-one (set-split out next v (omega arith)) }
+  put-byte v h = put-put (put-one out next v (rw put-length h))
 
 -- what a call that writes answers
 pub writes : {at next n : ℕ} {xs l out : List ℕ} (fits : Bool) → fits ≡ true → length xs ≡ n → Put at xs l next out → Writes fits at xs l (Bytes n) out

@@ -1,4 +1,4 @@
--- What four and eight bytes are read as. Assumes nothing.
+-- What one, four and eight bytes are read as. Assumes nothing.
 use mathlib.Core.Path.{_≡_, sym, ap, _∙_}
 use mathlib.Core.List.{List, [], _∷_, _++_}
 use Prim.Native.Nat.{ℕ, suc, _+_, _*_, _^_}
@@ -7,6 +7,12 @@ use native.Mathlib.Omega.{arith}
 use lib.ListN.{length, getD, take, drop, take-append-drop, length-drop}
 use lib.Seq.{length-take-le, take-all}
 use Rattle.records.specs.Field.{value}
+
+pub one-byte : (l : List ℕ) → length l ≡ 1 → getD l 0 0 ≡ value l
+unfolding value
+one-byte [] e = absurd (omega arith)
+one-byte (a ∷ []) e = omega arith
+one-byte (a ∷ b ∷ l) e = absurd (omega arith)
 
 value-four : (l : List ℕ) → length l ≡ 4 → getD l 0 0 + 256 * (getD l 1 0 + 256 * (getD l 2 0 + 256 * getD l 3 0)) ≡ value l
 unfolding value

@@ -1,8 +1,10 @@
-// A box record: BOX_BYTES bytes, a frame number and a scored box.
+// A box record: BOX_BYTES bytes, a frame number, a scored box and its label.
 use super::Written;
 use super::field::f32_of;
 use super::field::put_five;
+use super::field::put_u8;
 use super::field::put_u32;
+use super::field::u8_of;
 use super::field::u32_of;
 ghost use mathlib.Core.Path.{_≡_};
 ghost use Prim.Native.Nat.{_+_, _≤_};
@@ -10,7 +12,7 @@ ghost use lib.ListN.{length};
 ghost use Rattle.records.specs.BoxRecord.{boxBytes, boxOf, bytesOfBox, boxAt, WritesBox};
 ghost use Rattle.records.specs.Private.{Put};
 
-pub const BOX_BYTES: usize = 24;
+pub const BOX_BYTES: usize = 25;
 
 // Left, top, width, height and score: what a frame's slice has of each of its boxes.
 pub const BOX_VALUES: usize = 5;
@@ -22,6 +24,8 @@ pub struct BoxRecord {
     pub width: f32,
     pub height: f32,
     pub score: f32,
+    // 1 sleeper, 2 partner, 3 staff; any other byte is read too
+    pub label: u8,
 }
 
 // The answer of a call that reads: the record, or that the slice ends before it does.
@@ -41,6 +45,7 @@ fn box_of(b: &[u8]) -> BoxRecord
         width: f32_of(&b[12..16]),
         height: f32_of(&b[16..20]),
         score: f32_of(&b[20..24]),
+        label: u8_of(&b[24..25]),
     }
 }
 
@@ -49,7 +54,8 @@ fn put_box(out: &mut [u8], at: usize, r: BoxRecord) -> usize
     ensures { λ end. ⌜ Put at (bytesOfBox r) (now (out .entry)) end (now (out .exit)) ⌝ }
 {
     let floats = put_u32(out, at, r.frame);
-    put_five(out, floats, r.left, r.top, r.width, r.height, r.score)
+    let label = put_five(out, floats, r.left, r.top, r.width, r.height, r.score);
+    put_u8(out, label, r.label)
 }
 
 // Box record k of a slice of box records, counted from 0.

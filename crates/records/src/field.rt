@@ -31,6 +31,14 @@ fn wide(b: u8) -> u32
     b as u32
 }
 
+// The number in one byte.
+pub(crate) fn u8_of(b: &[u8]) -> u8
+    requires { ⌜ length (now b) ≡ 1 ⌝ }
+    ensures { λ r. ⌜ r ≡ Field.value (now (b .entry)) ⌝ }
+{
+    b[0]
+}
+
 // The number in four bytes.
 pub(crate) fn u32_of(b: &[u8]) -> u32
     requires { ⌜ length (now b) ≡ 4 ⌝ }
@@ -71,6 +79,14 @@ fn spread(cells: &mut [u8], n: u64)
 }
 
 // Each of these writes at `at` and answers where it ended.
+pub(crate) fn put_u8(out: &mut [u8], at: usize, n: u8) -> usize
+    requires { ⌜ at + 1 ≤ length (now out) ⌝ }
+    ensures { λ r. ⌜ Put at (Field.littleEndian 1 n) (now (out .entry)) r (now (out .exit)) ⌝ }
+{
+    out[at] = n;
+    at + 1
+}
+
 pub(crate) fn put_u32(out: &mut [u8], at: usize, n: u32) -> usize
     requires { ⌜ at + 4 ≤ length (now out) ⌝ }
     ensures { λ r. ⌜ Put at (Field.littleEndian 4 n) (now (out .entry)) r (now (out .exit)) ⌝ }

@@ -1,9 +1,11 @@
-// A track record: TRACK_BYTES bytes, a frame number and an emitted track.
+// A track record: TRACK_BYTES bytes, a frame number, an emitted track and its label.
 use super::Written;
 use super::field::f32_of;
 use super::field::put_five;
+use super::field::put_u8;
 use super::field::put_u32;
 use super::field::put_u64;
+use super::field::u8_of;
 use super::field::u32_of;
 use super::field::u64_of;
 ghost use mathlib.Core.Path.{_≡_};
@@ -12,7 +14,7 @@ ghost use lib.ListN.{length};
 ghost use Rattle.records.specs.TrackRecord.{trackBytes, trackOf, bytesOfTrack, trackAt, WritesTrack};
 ghost use Rattle.records.specs.Private.{Put};
 
-pub const TRACK_BYTES: usize = 32;
+pub const TRACK_BYTES: usize = 33;
 
 pub struct TrackRecord {
     pub frame: u32,
@@ -22,6 +24,7 @@ pub struct TrackRecord {
     pub width: f32,
     pub height: f32,
     pub confidence: f32,
+    pub label: u8,
 }
 
 // The answer of a call that reads: the record, or that the slice ends before it does.
@@ -42,6 +45,7 @@ fn track_of(b: &[u8]) -> TrackRecord
         width: f32_of(&b[20..24]),
         height: f32_of(&b[24..28]),
         confidence: f32_of(&b[28..32]),
+        label: u8_of(&b[32..33]),
     }
 }
 
@@ -51,7 +55,8 @@ fn put_track(out: &mut [u8], at: usize, t: TrackRecord) -> usize
 {
     let id = put_u32(out, at, t.frame);
     let floats = put_u64(out, id, t.id);
-    put_five(out, floats, t.left, t.top, t.width, t.height, t.confidence)
+    let label = put_five(out, floats, t.left, t.top, t.width, t.height, t.confidence);
+    put_u8(out, label, t.label)
 }
 
 // Track record k of a slice of track records, counted from 0.

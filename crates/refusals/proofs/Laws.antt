@@ -8,19 +8,24 @@ use borrow.Author.Tests.{ltb-false, eqb-true}
 use Rattle.laws.specs.Choose.{cond-no}
 use Rattle.laws.specs.Tests.{or-none, true-not-false}
 use Rattle.refusals.specs.declared.refusal.Refusal.{Refusal}
-use Rattle.refusals.specs.declared.refusal.Refusal.the-variants.{TooMany, OtherSize, TooShort}
+use Rattle.refusals.specs.declared.refusal.Refusal.the-variants.{TooMany, OtherSize, TooShort, NotLabelled}
 use Rattle.refusals.specs.declared.refusal.Verdict.{Verdict}
 use Rattle.refusals.specs.declared.refusal.Verdict.the-variants.{Accepted, Refused}
-use Rattle.refusals.specs.Refusal.{verdictNumber, tooMany, verdict}
+use Rattle.refusals.specs.Refusal.{number, verdictNumber, tooMany, verdict, labelledToo}
 
 refused : (r : Refusal) → _≡_ {A = Verdict} (Refused r) Accepted → ⊥
 refused r q = let z : _≡_ {A = ℕ} 0 1 = cc in omega arith
 
+-- no refusal has the number of an accepted call
+pub number-some : (why : Refusal) → number why ≡ 0 → ⊥
+number-some TooMany e = omega arith
+number-some OtherSize e = omega arith
+number-some TooShort e = omega arith
+number-some NotLabelled e = omega arith
+
 pub accepted-of : (v : Verdict) → verdictNumber v ≡ 0 → v ≡ Accepted
 accepted-of Accepted e = refl
-accepted-of (Refused TooMany) e = absurd (omega arith)
-accepted-of (Refused OtherSize) e = absurd (omega arith)
-accepted-of (Refused TooShort) e = absurd (omega arith)
+accepted-of (Refused why) e = absurd (number-some why e)
 
 -- no test held where the call is accepted
 pub record Passed (many otherSize short : Bool) : Type 0 where
@@ -34,6 +39,10 @@ passed many otherSize short e =
     let s₂ = cond-no otherSize (Refused OtherSize) _ Accepted (refused OtherSize) (s₁ .1) in
     let s₃ = cond-no short (Refused TooShort) Accepted Accepted (refused TooShort) (s₂ .1) in
     record { few = s₁ .0; sized = s₂ .0; enough = s₃ .0 }
+
+pub labelled-passed : (v : Verdict) (bad : Bool) → labelledToo v bad ≡ Accepted → (v ≡ Accepted) × (bad ≡ false)
+labelled-passed Accepted bad e = (refl, cond-no bad (Refused NotLabelled) Accepted Accepted (refused NotLabelled) e .0)
+labelled-passed (Refused why) bad e = absurd (refused why e)
 
 -- what the tests say
 pub few-sides : (boxes tracks : ℕ) → tooMany boxes tracks ≡ false → (boxes ≤ 255) × (tracks ≤ 255)

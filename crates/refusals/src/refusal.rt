@@ -1,14 +1,16 @@
-// Why a call of a pairing routine is turned down: document 01's 31, 32 and 33, in this order.
+// Why a call of a pairing routine is turned down: document 01's 31, 32 and 33, and 02's 34, in this order.
 ghost use mathlib.Core.Path.{_≡_};
 ghost use Rattle.refusals.specs.Refusal as Spec;
 
 pub enum Refusal {
     // 31: more than 255 boxes or tracks
     TooMany,
-    // 32: a matrix or confidence slice of another size than its sides say
+    // 32: a matrix, confidence or label slice of another size than its sides say
     OtherSize,
     // 33: a result or work slice too short
     TooShort,
+    // 34: a label other than 1 to 3
+    NotLabelled,
 }
 
 impl Refusal {
@@ -19,6 +21,7 @@ impl Refusal {
             Refusal::TooMany => 31,
             Refusal::OtherSize => 32,
             Refusal::TooShort => 33,
+            Refusal::NotLabelled => 34,
         }
     }
 }

@@ -4,7 +4,7 @@
 fn usage() {
     io::write_all(
         libc::STDERR_FILENO,
-        b"usage: trackbox < boxes > lines\nReads box records of 24 bytes and prints a line for each track of a frame.\n",
+        b"usage: trackbox < boxes > lines\nReads box records of 25 bytes and prints a line for each track of a frame.\n",
     );
 }
 

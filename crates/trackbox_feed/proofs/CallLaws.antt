@@ -13,6 +13,7 @@ use Rattle.records.specs.BoxRecord.{boxValues}
 use Rattle.records.specs.TrackRecord.{trackBytes}
 use Rattle.records.specs.Line.{lineBytes, refusedLine}
 use Rattle.boost_tracker_verdict.specs.declared.sound.State.{State}
+use Rattle.boost_tracker_verdict.specs.Boxes.{Boxes, boxesWith}
 use Rattle.trackbox_stream.specs.declared.rules.Refusal.{Refusal}
 use Rattle.trackbox_stream.specs.declared.rules.Next.{Next}
 use Rattle.trackbox_stream.specs.declared.rules.Next.the-variants as next
@@ -33,15 +34,24 @@ use Rattle.trackbox_feed.specs.declared.feed.Turn.the-variants as turn
 use Rattle.trackbox_feed.specs.Feed.{Lent, lentWith, Work, workWith, work, Call, callWith, workFront, workOpen, againThen, laterThen, boxesThen, lastThen, nextThen, endThen, callThen, taken, finished, fed}
 use Rattle.trackbox_feed.specs.Private.{Put, ofNext, ofEnding, itemTurn, turnOf, openTask, taskOf, taskWork, boxesTurn, answerTurn, turnCall}
 
+-- boxes and their labels, each by its equation
+pub both : {v w : List Float} {l k : List ℕ} → v ≡ w → l ≡ k → boxesWith v l ≡ boxesWith w k
+both p q = rw (p, q)
+
 -- ---- what is worked
 
-module _ (state : State) (nth : ℕ) (boxes : List Float) {t : Task} where
-  pub frame-worked : (l : Lent) {k m : ℕ} {w : Work} → t ≡ task.Frame k → m ≡ min k (length boxes / boxValues) → w ≡ work state nth (take (m * boxValues) boxes) l → w ≡ taskWork state nth t boxes l
-  frame-worked l e count q = rw e (q ∙ ap (λ (m : ℕ). work state nth (take (m * boxValues) boxes) l) count)
+module _ (state : State) (nth : ℕ) (boxes : Boxes) {t : Task} where
+  pub frame-worked : (l : Lent) {k m n : ℕ} {w : Work} → t ≡ task.Frame k → m ≡ min k (length (boxes .values) / boxValues) → n ≡ min k (length (boxes .labels))
+      → w ≡ work state nth (boxesWith (take (m * boxValues) (boxes .values)) (take n (boxes .labels))) l → w ≡ taskWork state nth t boxes l
+  frame-worked l {k} {m} {n} e count labels q =
+      rw e
+      (q
+      ∙ ap (λ (i : ℕ). work state nth (boxesWith (take (i * boxValues) (boxes .values)) (take n (boxes .labels))) l) count
+      ∙ ap (λ (i : ℕ). work state nth (boxesWith (take (min k (length (boxes .values) / boxValues) * boxValues) (boxes .values)) (take i (boxes .labels))) l) labels)
 
-  pub refused-worked : (f : List Float) (c out : List ℕ) (w64 w32 : List Float) (text : List ℕ) {why : Refusal} {k last n : ℕ} {text′ : List ℕ} → t ≡ task.Refused why last → k ≡ number why
-      → Put 0 (refusedLine k last) text n text′ → workWith (Stopped n) (lentWith f c out w64 w32 text′) ≡ taskWork state nth t boxes (lentWith f c out w64 w32 text)
-  refused-worked f c out w64 w32 text {k = k} {last = last} e q p = rw (e, p .cells, p .ends ∙ zero-add (length (refusedLine k last)), q)
+  pub refused-worked : (f : List Float) (c labels out : List ℕ) (w64 w32 : List Float) (text : List ℕ) {why : Refusal} {k last n : ℕ} {text′ : List ℕ} → t ≡ task.Refused why last → k ≡ number why
+      → Put 0 (refusedLine k last) text n text′ → workWith (Stopped n) (lentWith f c labels out w64 w32 text′) ≡ taskWork state nth t boxes (lentWith f c labels out w64 w32 text)
+  refused-worked f c labels out w64 w32 text {k = k} {last = last} e q p = rw (e, p .cells, p .ends ∙ zero-add (length (refusedLine k last)), q)
 
 -- ---- what a call does where no empty frame comes before
 
@@ -54,7 +64,7 @@ module _ (feed : Feed) {i : Item} {t : Turn} (none : feed .empty ≤ 0) where
 
 -- ---- what a call is
 
-module _ (feed : Feed) (boxes : List Float) (l : Lent) where
+module _ (feed : Feed) (boxes : Boxes) (l : Lent) where
   open-worked : (b : Bool) → taskWork (feed .table) (feed .opened .first) (cond b task.Nothing (task.Frame (feed .opened .boxes))) boxes l
       ≡ cond b (workWith (Done (feed .table) 0) l) (workFront feed (feed .opened .boxes) boxes l)
   unfolding workFront
@@ -102,7 +112,7 @@ module _ (feed : Feed) (boxes : List Float) (l : Lent) where
       let short : callWith Short l boxes ≡ callThen feed l boxes (itemCall i) = rw (le-ltb (length (l .memory .output) / trackBytes) (length (l .text) / lineBytes) h) in
       short ∙ fed-is i
 
-  pub turn-call : (i : Item) {t : Turn} {k : Task} {w : Worked} {l′ : Lent} {a : Fed} {b : List Float} → length (l .memory .output) / trackBytes < length (l .text) / lineBytes → t ≡ turnOf feed i → k ≡ taskOf (feed .opened) t
+  pub turn-call : (i : Item) {t : Turn} {k : Task} {w : Worked} {l′ : Lent} {a : Fed} {b : Boxes} → length (l .memory .output) / trackBytes < length (l .text) / lineBytes → t ≡ turnOf feed i → k ≡ taskOf (feed .opened) t
       → workWith w l′ ≡ taskWork (feed .table) (feed .opened .first) k boxes l → b ≡ boxesTurn (feed .opened .boxes) t w boxes → a ≡ answerTurn feed t w → callWith a l′ b ≡ fed feed i l boxes
   turn-call i {t} {k} {w} {l′} {a} {b} room told tasked worked held answered =
       let left : callWith a l′ b ≡ callWith (answerTurn feed t w) l′ (boxesTurn (feed .opened .boxes) t w boxes) = rw (answered, held) in

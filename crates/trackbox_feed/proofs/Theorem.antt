@@ -8,11 +8,12 @@ use native.Mathlib.Nat.{lt-of-not-le, mul-le-mul}
 use native.Mathlib.Decide.{decLe}
 use native.Mathlib.Omega.{arith}
 use lib.Dec.{eqb, ltb}
-use lib.ListN.{length, take, length-append}
+use lib.ListN.{length, take, length-append, length-map}
 use lib.Ieee.{Float}
 use borrow.Author.Tests.{lt-ltb, le-ltb}
 use Rattle.laws.specs.Splice.{splice}
 use Rattle.laws.specs.Laid.{rows, laid, laid-none, length-rows, length-laid}
+use Rattle.laws.specs.Over.{over, over-none, length-over}
 use Rattle.records.specs.declared.box_record.BoxRecord.{BoxRecord}
 use Rattle.records.specs.declared.track_record.TrackRecord.{TrackRecord}
 use Rattle.records.specs.BoxRecord.{boxBytes, boxValues}
@@ -22,6 +23,7 @@ use Rattle.records.proofs.Laws.{text-written}
 use Rattle.boost_tracker_verdict.specs.declared.sound.State.{State}
 use Rattle.boost_tracker_verdict.specs.declared.refusal.Verdict.{Verdict}
 use Rattle.boost_tracker_verdict.specs.declared.refusal.Verdict.the-variants.{Accepted, Refused}
+use Rattle.boost_tracker_verdict.specs.Boxes.{Boxes, boxesWith}
 use Rattle.boost_tracker_verdict.specs.Verdict.{number, boxesIn, ofRoom, verdict}
 use Rattle.boost_tracker_definition.specs.Update.{Stages, stateAfter}
 use Rattle.boost_tracker.specs.Frame as Answers
@@ -32,39 +34,46 @@ use Rattle.trackbox_stream.specs.declared.rules.Next.{Next}
 use Rattle.trackbox_stream.specs.declared.rules.Ending.the-variants as ending
 use Rattle.trackbox_stream.specs.Rules.{nthAfter, judged, closed, opened, grown}
 use Rattle.trackbox_stream.specs.Rules as rules
-use Rattle.trackbox_stream.specs.Boxes.{boxFloats, frameFloats, heldThen}
+use Rattle.trackbox_stream.specs.Boxes.{boxFloats, frameFloats, frameLabels}
 use Rattle.trackbox_stream.specs.Stream.{Event, work, refuse, refused, accepted, boxRecords, printing}
 use Rattle.trackbox_stream.specs.Feeding.{openWork, emptyWork, told, toldAtEnd, stateThen, goesOn}
 use Rattle.trackbox_stream.specs.Feeding as feeding
 use Rattle.trackbox_stream.proofs.Theorem.{trackbox-fed}
 use Rattle.trackbox_stream.proofs.Cases.{Judges, back, far, later, full, same, judges}
-use Rattle.trackbox_stream.proofs.Held.{held-first, held-more, held-front}
+use Rattle.trackbox_stream.proofs.Held.{held-first, held-more, held-front, label-first, label-more, label-front}
 use Rattle.trackbox_feed.specs.declared.frame.Worked.the-variants.{Done, Stopped}
 use Rattle.trackbox_feed.specs.declared.feed.Feed.{Feed}
-use Rattle.trackbox_feed.specs.Trackbox.{settings, lentBoxes, lentOutput, lentDoubles, lentSingles, Tracker, trackerWith, stages, recordsOf, frameThen, frame, begin, updated, trackbox}
-use Rattle.trackbox_feed.specs.Feed.{Lent, lentWith, hasRoom, Work, workWith, workBy, verdictOf, feedWith, start, Call, callWith, front, workFront, workOpen, againThen, laterThen, boxesThen, lastThen, refuses, laterCall, nextThen, endThen, callThen, taken, finished}
+use Rattle.trackbox_feed.specs.Trackbox.{settings, lentBoxes, lentBoxLabels, lentOutput, lentDoubles, lentSingles, Tracker, trackerWith, stages, labelsOf, recordsOf, frameThen, frame, begin, frameBoxes, updated, trackbox}
+use Rattle.trackbox_feed.specs.Feed.{Lent, lentWith, hasRoom, Work, workWith, workBy, verdictOf, feedWith, start, Call, callWith, storedThen, front, workFront, workOpen, againThen, laterThen, boxesThen, lastThen, refuses, laterCall, nextThen, endThen, callThen, taken, finished}
 use Rattle.trackbox_feed.specs.Feed as calls
 use Rattle.trackbox_feed.specs.Laws.{Memory, Scratch, square, Serves, Sized, lentOf, memoryOf, Follows, SaidOf, Prints, memory, PrintedIs}
 use Rattle.trackbox_feed.proofs.Texts.{textOf, text-refuse, text-stops, text-goes, text-none, empties, text-empties, text-one-empty, text-no-empty}
 use Rattle.trackbox_feed.proofs.Ahead.{ahead, all-ahead}
+use Rattle.trackbox_feed.proofs.CallLaws.{both}
 
 -- ---- a frame of the code is one of the definition
 
 abbrev trackerOf : State → Memory → Tracker
-trackerOf state m = trackerWith state (tableWith (m .floats) (m .counters))
+trackerOf state m = trackerWith state (tableWith (m .floats) (m .counters) (m .labels))
 
 data Frames (t : Tracker) (bs : List BoxRecord) (nth : ℕ) (text : List ℕ) (w : Work) : Type 0 where
   goes : (t′ : Tracker) (rs : List TrackRecord) (o : List ℕ) (d s : List Float) → updated t bs ≡ accepted t′ rs
-      → w ≡ workWith (Done (t′ .state) (length (rows line rs))) (lentWith (t′ .table .floats) (t′ .table .counters) o d s (splice text 0 (rows line rs))) → Frames t bs nth text w
+      → w ≡ workWith (Done (t′ .state) (length (rows line rs))) (lentWith (t′ .table .floats) (t′ .table .counters) (t′ .table .labels) o d s (splice text 0 (rows line rs))) → Frames t bs nth text w
   stops : (n : ℕ) (l : Lent) → updated t bs ≡ refused n → w ≡ workWith (Stopped (length (refusedLine n nth))) l → l .text ≡ splice text 0 (refusedLine n nth) → Frames t bs nth text w
 
-by-verdict : (v : Verdict) (t : Tracker) (bs : List BoxRecord) (nth : ℕ) (o : List ℕ) (d s : List Float) (text : List ℕ) → updated t bs ≡ frameThen v t (stages t (frameFloats bs))
-    → Frames t bs nth text (workBy v nth (stages t (frameFloats bs)) (lentWith (t .table .floats) (t .table .counters) o d s text))
-by-verdict Accepted t bs nth o d s text u =
-    let g : Stages = stages t (frameFloats bs) in
-    let after : Answers.Memory = Answers.memoryAfter false g (Answers.memoryWith (t .table .floats) (t .table .counters) o d s) in
-    goes (trackerWith (stateAfter g) (after .table)) (recordsOf g) (after .output) (after .work64) (after .work32) u refl
-by-verdict (Refused why) t bs nth o d s text u = stops (number why) (lentWith (t .table .floats) (t .table .counters) o d s (splice text 0 (refusedLine (number why) nth))) u refl refl
+module _ (t : Tracker) (bs : List BoxRecord) (nth : ℕ) (o : List ℕ) (d s : List Float) (text : List ℕ) where
+  abbrev staged : Stages
+  staged = stages t (frameBoxes bs)
+
+  abbrev labelled : List ℕ
+  labelled = labelsOf t (frameBoxes bs) staged
+
+  by-verdict : (v : Verdict) → updated t bs ≡ frameThen v t labelled staged
+      → Frames t bs nth text (workBy v nth labelled staged (lentWith (t .table .floats) (t .table .counters) (t .table .labels) o d s text))
+  by-verdict Accepted u =
+      let after : Answers.Memory = Answers.memoryAfter settings labelled staged (Answers.memoryWith (t .table .floats) (t .table .counters) (t .table .labels) o d s) in
+      goes (trackerWith (stateAfter staged) (after .table)) (recordsOf labelled staged) (after .output) (after .work64) (after .work32) u refl
+  by-verdict (Refused why) u = stops (number why) (lentWith (t .table .floats) (t .table .counters) (t .table .labels) o d s (splice text 0 (refusedLine (number why) nth))) u refl refl
 
 -- a test whether n are enough says the same of `most`
 serves-as : (need less most n : ℕ) → Serves need most n → less ≤ need → ltb n less ≡ ltb most less
@@ -78,14 +87,14 @@ square-up : (a b k : ℕ) → k ≤ b → square a k ≤ square a b
 square-up a b k h = let l : max a k ≤ max a b = omega (arith, h) in mul-le-mul l l
 
 -- the verdict of a frame of no more boxes than the open one is that with all that trackbox lends
-verdict-whole : (feed : Feed) (m : Memory) (s : Scratch) → Sized feed s → (objects : List Float) → boxesIn objects ≤ feed .opened .boxes
-    → verdictOf (feed .table) objects (lentOf m s) ≡ verdict settings (feed .table) (m .floats) (m .counters) objects lentOutput lentDoubles lentSingles
+verdict-whole : (feed : Feed) (m : Memory) (s : Scratch) → Sized feed s → (objects : Boxes) → boxesIn (objects .values) ≤ feed .opened .boxes
+    → verdictOf (feed .table) objects (lentOf m s) ≡ verdict settings (feed .table) (tableWith (m .floats) (m .counters) (m .labels)) objects lentOutput lentDoubles lentSingles
 unfolding verdict ofRoom
 verdict-whole feed m s z objects h =
     let held : ℕ = feed .table .count in
-    let up = square-up held (feed .opened .boxes) (boxesIn objects) h in
-    let d = serves-as (square held (feed .opened .boxes)) (square held (boxesIn objects)) lentDoubles (length (s .doubles)) (z .doubles) up in
-    let f = serves-as (4 * square held (feed .opened .boxes)) (4 * square held (boxesIn objects)) lentSingles (length (s .singles)) (z .singles) (omega (arith, up)) in
+    let up = square-up held (feed .opened .boxes) (boxesIn (objects .values)) h in
+    let d = serves-as (square held (feed .opened .boxes)) (square held (boxesIn (objects .values))) lentDoubles (length (s .doubles)) (z .doubles) up in
+    let f = serves-as (4 * square held (feed .opened .boxes)) (4 * square held (boxesIn (objects .values))) lentSingles (length (s .singles)) (z .singles) (omega (arith, up)) in
     rw (z .output, d, f)
 
 five : (r : BoxRecord) → length (boxFloats r) ≡ boxValues
@@ -95,58 +104,83 @@ boxes-many : (bs : List BoxRecord) → boxesIn (frameFloats bs) ≡ length bs
 boxes-many bs = let n = length-rows boxFloats boxValues five bs in omega (arith, n)
 
 frames-view : (feed : Feed) (m : Memory) (s : Scratch) → Sized feed s → (bs : List BoxRecord) (nth : ℕ) → length bs ≤ feed .opened .boxes
-    → Frames (trackerOf (feed .table) m) bs nth (s .text) (calls.work (feed .table) nth (frameFloats bs) (lentOf m s))
+    → Frames (trackerOf (feed .table) m) bs nth (s .text) (calls.work (feed .table) nth (frameBoxes bs) (lentOf m s))
 unfolding frame calls.work
 frames-view feed m s z bs nth few =
-    let whole = verdict-whole feed m s z (frameFloats bs) (rw (boxes-many bs) few) in
-    by-verdict (verdictOf (feed .table) (frameFloats bs) (lentOf m s)) (trackerOf (feed .table) m) bs nth (s .output) (s .doubles) (s .singles) (s .text) (rw whole)
+    let whole = verdict-whole feed m s z (frameBoxes bs) (rw (boxes-many bs) few) in
+    by-verdict (trackerOf (feed .table) m) bs nth (s .output) (s .doubles) (s .singles) (s .text) (verdictOf (feed .table) (frameBoxes bs) (lentOf m s)) (rw whole)
 
--- ---- lent memory holds the open frame's boxes
+-- ---- lent memory holds the open frame's boxes and their labels
+
+-- over what was there before them
+abbrev laidBoxes : List BoxRecord → Boxes → Boxes
+laidBoxes bs base = boxesWith (laid boxFloats boxValues bs (base .values)) (over (frameLabels bs) (base .labels))
 
 record Holds (feed : Feed) (m : Memory) (bs : List BoxRecord) : Type 0 where
   pub count : feed .opened .boxes ≡ length bs
   pub few : length bs ≤ 64
-  -- what was there before them
-  pub base : List Float
-  pub long : length base ≡ lentBoxes
-  pub boxes : m .boxes ≡ laid boxFloats boxValues bs base
+  pub base : Boxes
+  pub long : length (base .values) ≡ lentBoxes
+  pub long-labels : length (base .labels) ≡ lentBoxLabels
+  pub boxes : m .boxes ≡ laidBoxes bs base
 
-holds-long : (feed : Feed) (m : Memory) (bs : List BoxRecord) → Holds feed m bs → length (m .boxes) ≡ lentBoxes
-holds-long feed m bs h =
-    let few = h .few in
-    let long = h .long in
-    ap length (h .boxes) ∙ length-laid boxFloats boxValues five bs (h .base) (omega (arith, few, long)) ∙ long
+module _ (feed : Feed) (m : Memory) (bs : List BoxRecord) (h : Holds feed m bs) where
+  holds-long : length (m .boxes .values) ≡ lentBoxes
+  holds-long =
+      let few = h .few in
+      let long = h .long in
+      ap (λ (b : Boxes). length (b .values)) (h .boxes) ∙ length-laid boxFloats boxValues five bs (h .base .values) (omega (arith, few, long)) ∙ long
 
--- the boxes that the open frame is worked with
-front-is : (feed : Feed) (m : Memory) (bs : List BoxRecord) → Holds feed m bs → front (feed .opened .boxes) (m .boxes) ≡ frameFloats bs
-front-is feed m bs h =
-    let long = holds-long feed m bs h in
-    let few = h .few in
-    let e : min (length bs) (length (m .boxes) / boxValues) * boxValues ≡ length bs * boxValues = omega (arith, long, few) in
-    ap (λ (k : ℕ). take (min k (length (m .boxes) / boxValues) * boxValues) (m .boxes)) (h .count)
-    ∙ ap (λ (n : ℕ). take n (m .boxes)) e
-    ∙ ap (take (length bs * boxValues)) (h .boxes)
-    ∙ held-front bs (h .base)
+  holds-labels : length (m .boxes .labels) ≡ lentBoxLabels
+  holds-labels =
+      let few = h .few in
+      let long = h .long-labels in
+      let many = length-map bs (λ (r : BoxRecord). r .label) in
+      ap (λ (b : Boxes). length (b .labels)) (h .boxes) ∙ length-over (frameLabels bs) (h .base .labels) (omega (arith, few, long, many)) ∙ long
 
--- one more box of the open frame, and the first of a new one
-holds-more : (feed then : Feed) (m : Memory) (l : Lent) (bs : List BoxRecord) (r : BoxRecord) → Holds feed m bs → feed .opened .boxes < 64 → then .opened .boxes ≡ feed .opened .boxes + 1
-    → Holds then (memoryOf l (heldThen r (feed .opened .boxes) (m .boxes))) (bs ++ (r ∷ []))
-holds-more feed then m l bs r h low e =
-    let count = h .count in
-    let long = h .long in
-    let n = length-append bs (r ∷ []) in
-    record {
-      count = omega (arith, e, count, n);
-      few = omega (arith, low, count, n);
-      base = h .base;
-      long = long;
-      boxes = ap (λ (k : ℕ). heldThen r k (m .boxes)) count ∙ ap (heldThen r (length bs)) (h .boxes) ∙ held-more bs r (h .base) (omega (arith, low, count, long));
-    }
+  -- the boxes that the open frame is worked with
+  front-is : front (feed .opened .boxes) (m .boxes) ≡ frameBoxes bs
+  front-is =
+      let long = holds-long in
+      let labels = holds-labels in
+      let few = h .few in
+      let e : min (length bs) (length (m .boxes .values) / boxValues) * boxValues ≡ length bs * boxValues = omega (arith, long, few) in
+      let q : min (length bs) (length (m .boxes .labels)) ≡ length bs = omega (arith, labels, few) in
+      ap (λ (k : ℕ). front k (m .boxes)) (h .count)
+      ∙ both (ap (λ (n : ℕ). take n (m .boxes .values)) e) (ap (λ (n : ℕ). take n (m .boxes .labels)) q)
+      ∙ ap (λ (b : Boxes). boxesWith (take (length bs * boxValues) (b .values)) (take (length bs) (b .labels))) (h .boxes)
+      ∙ both (held-front bs (h .base .values)) (label-front bs (h .base .labels))
 
-holds-first : (feed then : Feed) (m : Memory) (l : Lent) (bs : List BoxRecord) (r : BoxRecord) → Holds feed m bs → then .opened .boxes ≡ 1 → Holds then (memoryOf l (heldThen r 0 (m .boxes))) (r ∷ [])
-holds-first feed then m l bs r h e =
-    let long = holds-long feed m bs h in
-    record { count = e; few = omega arith; base = m .boxes; long = long; boxes = held-first r (m .boxes) (omega (arith, long)) }
+  -- one more box of the open frame, and the first of a new one
+  holds-more : (then : Feed) (l : Lent) (r : BoxRecord) → feed .opened .boxes < 64 → then .opened .boxes ≡ feed .opened .boxes + 1
+      → Holds then (memoryOf l (storedThen r (feed .opened .boxes) (m .boxes))) (bs ++ (r ∷ []))
+  holds-more then l r low e =
+      let count = h .count in
+      let long = h .long in
+      let labels = h .long-labels in
+      let n = length-append bs (r ∷ []) in
+      record {
+        count = omega (arith, e, count, n);
+        few = omega (arith, low, count, n);
+        base = h .base;
+        long = long;
+        long-labels = labels;
+        boxes = ap (λ (k : ℕ). storedThen r k (m .boxes)) count ∙ ap (storedThen r (length bs)) (h .boxes)
+            ∙ both (held-more bs r (h .base .values) (omega (arith, low, count, long))) (label-more bs r (h .base .labels) (omega (arith, low, count, labels)));
+      }
+
+  holds-first : (then : Feed) (l : Lent) (r : BoxRecord) → then .opened .boxes ≡ 1 → Holds then (memoryOf l (storedThen r 0 (m .boxes))) (r ∷ [])
+  holds-first then l r e =
+      let long = holds-long in
+      let labels = holds-labels in
+      record {
+        count = e;
+        few = omega arith;
+        base = m .boxes;
+        long = long;
+        long-labels = labels;
+        boxes = both (held-first r (m .boxes .values) (omega (arith, long))) (label-first r (m .boxes .labels) (omega (arith, labels)));
+      }
 
 -- ---- what a call does, where it has room
 
@@ -169,13 +203,16 @@ shown : (text xs : List ℕ) → take (length xs) (splice text 0 xs) ≡ xs
 shown text xs = text-written xs text
 
 module _ (feed : Feed) (m : Memory) (s : Scratch) (z : Sized feed s) where
-  empty-is : workFront feed 0 (m .boxes) (lentOf m s) ≡ calls.work (feed .table) (feed .opened .first) (frameFloats []) (lentOf m s)
+  empty-is : workFront feed 0 (m .boxes) (lentOf m s) ≡ calls.work (feed .table) (feed .opened .first) (frameBoxes []) (lentOf m s)
   unfolding workFront rows
-  empty-is = let e : min 0 (length (m .boxes) / boxValues) * boxValues ≡ 0 = omega arith in ap (λ (n : ℕ). calls.work (feed .table) (feed .opened .first) (take n (m .boxes)) (lentOf m s)) e
+  empty-is =
+      let e : min 0 (length (m .boxes .values) / boxValues) * boxValues ≡ 0 = omega arith in
+      let q : min 0 (length (m .boxes .labels)) ≡ 0 = omega arith in
+      ap (λ (b : Boxes). calls.work (feed .table) (feed .opened .first) b (lentOf m s)) (both (ap (λ (n : ℕ). take n (m .boxes .values)) e) (ap (λ (n : ℕ). take n (m .boxes .labels)) q))
 
-  open-is : (bs : List BoxRecord) → Holds feed m bs → eqb (feed .opened .frame) 0 ≡ false → workOpen feed (m .boxes) (lentOf m s) ≡ calls.work (feed .table) (feed .opened .first) (frameFloats bs) (lentOf m s)
+  open-is : (bs : List BoxRecord) → Holds feed m bs → eqb (feed .opened .frame) 0 ≡ false → workOpen feed (m .boxes) (lentOf m s) ≡ calls.work (feed .table) (feed .opened .first) (frameBoxes bs) (lentOf m s)
   unfolding workOpen workFront
-  open-is bs h e = rw e (ap (λ (x : List Float). calls.work (feed .table) (feed .opened .first) x (lentOf m s)) (front-is feed m bs h))
+  open-is bs h e = rw e (ap (λ (x : Boxes). calls.work (feed .table) (feed .opened .first) x (lentOf m s)) (front-is feed m bs h))
 
   none-is : eqb (feed .opened .frame) 0 ≡ true → workOpen feed (m .boxes) (lentOf m s) ≡ workWith (Done (feed .table) 0) (lentOf m s)
   unfolding workOpen
@@ -196,10 +233,10 @@ module _ (feed : Feed) (m : Memory) (s : Scratch) (z : Sized feed s) (call : Cal
       → SaidOf (callWith (againThen feed (workFront feed 0 (m .boxes) (lentOf m s) .answer)) (workFront feed 0 (m .boxes) (lentOf m s) .lent) (m .boxes)) out Took More → goal
   empty-told (goes t′ rs o d w u q) x =
       let then : Feed = feedWith (feed .opened) (feed .empty - 1) (t′ .state) in
-      let l : Lent = lentWith (t′ .table .floats) (t′ .table .counters) o d w (splice (s .text) 0 (rows line rs)) in
+      let l : Lent = lentWith (t′ .table .floats) (t′ .table .counters) (t′ .table .labels) o d w (splice (s .text) 0 (rows line rs)) in
       let y : Follows (take (length (rows line rs)) (l .text)) out (More then (memoryOf l (m .boxes))) =
       subst (λ (v : Work). SaidOf (callWith (againThen feed (v .answer)) (v .lent) (m .boxes)) out Took More) q x in
-      let held : Holds then (memoryOf l (m .boxes)) bs = record { count = h .count; few = h .few; base = h .base; long = h .long; boxes = h .boxes } in
+      let held : Holds then (memoryOf l (m .boxes)) bs = record { count = h .count; few = h .few; base = h .base; long = h .long; long-labels = h .long-labels; boxes = h .boxes } in
       let less : feed .empty - 1 ≡ k = omega (arith, e) in
       let later = ih then (memoryOf l (m .boxes)) (y .rest) (y .follows) held in
       y .split
@@ -249,20 +286,20 @@ module _ (feed : Feed) (m : Memory) (s : Scratch) (z : Sized feed s) (bs : List 
     none-later : opening ≡ workWith (Done (feed .table) 0) (lentOf m s) → SaidOf (after opening) out Took More → out ≡ textOf tracker comes
     none-later q x =
         let then : Feed = feedWith op k (feed .table) in
-        let y : Follows [] out (Took then (memoryOf (lentOf m s) (heldThen r 0 (m .boxes)))) = subst (λ (w : Work). SaidOf (after w) out Took More) q x in
+        let y : Follows [] out (Took then (memoryOf (lentOf m s) (storedThen r 0 (m .boxes)))) = subst (λ (w : Work). SaidOf (after w) out Took More) q x in
         y .split
-        ∙ ih then (memoryOf (lentOf m s) (heldThen r 0 (m .boxes))) (y .rest) (y .follows) (holds-first feed then m (lentOf m s) bs r h one)
+        ∙ ih then (memoryOf (lentOf m s) (storedThen r 0 (m .boxes))) (y .rest) (y .follows) (holds-first feed m bs h then (lentOf m s) r one)
         ∙ sym (text-empties tracker k f (op .first) (es op))
 
     some-later : Frames tracker bs (st .first) (s .text) opening → SaidOf (after opening) out Took More → out ≡ textOf tracker (work (st .frame) bs (st .first) ∷ comes)
     some-later (goes t′ rs o d w u q) x =
         let then : Feed = feedWith op k (t′ .state) in
-        let l : Lent = lentWith (t′ .table .floats) (t′ .table .counters) o d w (splice (s .text) 0 (rows line rs)) in
-        let y : Follows (take (length (rows line rs)) (l .text)) out (Took then (memoryOf l (heldThen r 0 (m .boxes)))) = subst (λ (v : Work). SaidOf (after v) out Took More) q x in
+        let l : Lent = lentWith (t′ .table .floats) (t′ .table .counters) (t′ .table .labels) o d w (splice (s .text) 0 (rows line rs)) in
+        let y : Follows (take (length (rows line rs)) (l .text)) out (Took then (memoryOf l (storedThen r 0 (m .boxes)))) = subst (λ (v : Work). SaidOf (after v) out Took More) q x in
         y .split
         ∙ ap (λ (xs : List ℕ). xs ++ y .rest) (shown (s .text) (rows line rs))
         ∙ ap (λ (xs : List ℕ). rows line rs ++ xs)
-        (ih then (memoryOf l (heldThen r 0 (m .boxes))) (y .rest) (y .follows) (holds-first feed then m l bs r h one) ∙ sym (text-empties t′ k f (op .first) (es op)))
+        (ih then (memoryOf l (storedThen r 0 (m .boxes))) (y .rest) (y .follows) (holds-first feed m bs h then l r one) ∙ sym (text-empties t′ k f (op .first) (es op)))
         ∙ sym (text-goes tracker (st .frame) bs (st .first) comes u)
     some-later (stops n l u q p) x =
         let y : out ≡ take (length (refusedLine n (st .first))) (l .text) = subst (λ (v : Work). SaidOf (after v) out Took More) q x in
@@ -328,9 +365,9 @@ module _ (feed : Feed) (m : Memory) (s : Scratch) (z : Sized feed s) (bs : List 
     told-next n (same a q b) x =
         let op : OpenFrame = grown st nth (st .boxes + 1) in
         let then : Feed = feedWith op 0 (feed .table) in
-        let y : Follows [] out (Took then (memoryOf (lentOf m s) (heldThen r (st .boxes) (m .boxes)))) = x in
+        let y : Follows [] out (Took then (memoryOf (lentOf m s) (storedThen r (st .boxes) (m .boxes)))) = x in
         y .split
-        ∙ ih (bs ++ (r ∷ [])) then (memoryOf (lentOf m s) (heldThen r (st .boxes) (m .boxes))) (y .rest) (y .follows) (holds-more feed then m (lentOf m s) bs r h b refl)
+        ∙ ih (bs ++ (r ∷ [])) then (memoryOf (lentOf m s) (storedThen r (st .boxes) (m .boxes))) (y .rest) (y .follows) (holds-more feed m bs h then (lentOf m s) r b refl)
         ∙ text-no-empty tracker (op .first) (ahead op (bs ++ (r ∷ [])) rs rest)
 
   -- ---- the end of the input
@@ -346,11 +383,11 @@ module _ (feed : Feed) (m : Memory) (s : Scratch) (z : Sized feed s) (bs : List 
 
 -- ---- all calls
 
-taken-is : (feed : Feed) (r : BoxRecord) (l : Lent) (boxes : List Float) → taken feed r l boxes ≡ callThen feed l boxes (nextThen feed r (judged (feed .opened) (nthAfter (feed .opened .records)) (r .frame)) l boxes)
+taken-is : (feed : Feed) (r : BoxRecord) (l : Lent) (boxes : Boxes) → taken feed r l boxes ≡ callThen feed l boxes (nextThen feed r (judged (feed .opened) (nthAfter (feed .opened .records)) (r .frame)) l boxes)
 unfolding taken
 taken-is feed r l boxes = refl
 
-finished-is : (feed : Feed) (rest : ℕ) (l : Lent) (boxes : List Float) → finished feed rest l boxes ≡ callThen feed l boxes (endThen feed (closed (nthAfter (feed .opened .records)) rest) l boxes)
+finished-is : (feed : Feed) (rest : ℕ) (l : Lent) (boxes : Boxes) → finished feed rest l boxes ≡ callThen feed l boxes (endThen feed (closed (nthAfter (feed .opened .records)) rest) l boxes)
 unfolding finished
 finished-is feed rest l boxes = refl
 
@@ -402,10 +439,11 @@ prints-text (suc n) (r ∷ rs) rest bs feed m out x h =
 
 pub printed-is : PrintedIs
 unfolding textOf printing trackbox
-printed-is bytes boxes n out w e x =
+printed-is bytes boxes n out w e labels x =
     let rs : List BoxRecord = boxRecords bytes in
     let rest : ℕ = length bytes % boxBytes in
-    prints-text n rs rest [] start (memory boxes) out x (record { count = refl; few = omega arith; base = boxes; long = e; boxes = laid-none boxFloats boxValues boxes })
+    let none : boxes ≡ laidBoxes [] boxes = both (laid-none boxFloats boxValues (boxes .values)) (over-none (boxes .labels)) in
+    prints-text n rs rest [] start (memory boxes) out x (record { count = refl; few = omega arith; base = boxes; long = e; long-labels = labels; boxes = none })
     ∙ text-no-empty begin 1 (ahead rules.start [] rs rest)
     ∙ ap (textOf begin) (sym (all-ahead rs rest))
     ∙ trackbox-fed updated begin bytes w

@@ -9,11 +9,12 @@ use Rattle.records.specs.declared.box_record.BoxRecord.{BoxRecord}
 use Rattle.records.specs.BoxRecord.{boxBytes}
 use Rattle.records.specs.Line.{lineBytes}
 use Rattle.records.specs.Field.{AreBytes}
+use Rattle.boost_tracker_verdict.specs.Boxes.{Boxes}
 use Rattle.trackbox_stream.specs.Stream.{boxRecords}
 use Rattle.trackbox_feed.specs.declared.feed.Feed.{Feed}
 use Rattle.trackbox_feed.specs.declared.feed.Fed.{Fed}
 use Rattle.trackbox_feed.specs.declared.feed.Fed.the-variants.{Taken, Again, Ended, Short}
-use Rattle.trackbox_feed.specs.Trackbox.{lentBoxes, lentOutput, lentDoubles, lentSingles, begin, trackbox}
+use Rattle.trackbox_feed.specs.Trackbox.{lentBoxes, lentBoxLabels, lentOutput, lentDoubles, lentSingles, begin, trackbox}
 use Rattle.trackbox_feed.specs.Feed.{Lent, lentWith, start, Call, taken, finished}
 
 -- ---- the calls
@@ -22,8 +23,9 @@ use Rattle.trackbox_feed.specs.Feed.{Lent, lentWith, start, Call, taken,
 pub record Memory : Type 0 where
   pub floats : List Float
   pub counters : List ℕ
+  pub labels : List ℕ
   -- the open frame's
-  pub boxes : List Float
+  pub boxes : Boxes
 
 -- what else a call is lent, whatever is in it
 pub record Scratch : Type 0 where
@@ -50,10 +52,10 @@ pub record Sized (feed : Feed) (s : Scratch) : Type 0 where
   pub text : 65 * lineBytes ≤ length (s .text)
 
 abbrev pub lentOf : Memory → Scratch → Lent
-lentOf m s = lentWith (m .floats) (m .counters) (s .output) (s .doubles) (s .singles) (s .text)
+lentOf m s = lentWith (m .floats) (m .counters) (m .labels) (s .output) (s .doubles) (s .singles) (s .text)
 
-abbrev pub memoryOf : Lent → List Float → Memory
-memoryOf l boxes = record { floats = l .memory .table .floats; counters = l .memory .table .counters; boxes = boxes }
+abbrev pub memoryOf : Lent → Boxes → Memory
+memoryOf l boxes = record { floats = l .memory .table .floats; counters = l .memory .table .counters; labels = l .memory .table .labels; boxes = boxes }
 
 pub record Lends (feed : Feed) (Then : Scratch → Type 0) : Type 0 where
   pub scratch : Scratch
@@ -67,7 +69,7 @@ pub record Follows (text out : List ℕ) (Rest : List ℕ → Type 0) : Type 0 w
   pub follows : Rest rest
 
 -- what is printed from a call on: its text, and then what is printed where the record is taken, or where it is handed on again
-abbrev pub Said : Fed → Lent → List Float → List ℕ → (Feed → Memory → List ℕ → Type 0) → (Feed → Memory → List ℕ → Type 0) → Type 0
+abbrev pub Said : Fed → Lent → Boxes → List ℕ → (Feed → Memory → List ℕ → Type 0) → (Feed → Memory → List ℕ → Type 0) → Type 0
 Said (Taken feed n) l boxes out Took More = Follows (take n (l .text)) out (Took feed (memoryOf l boxes))
 Said (Again feed n) l boxes out Took More = Follows (take n (l .text)) out (More feed (memoryOf l boxes))
 Said (Ended n) l boxes out Took More = out ≡ take n (l .text)
@@ -85,10 +87,10 @@ Prints (suc n) (r ∷ rs) rest feed m out = Lends feed (λ (s : Scratch). SaidOf
 -- ---- the theorem
 
 -- an empty table, and room for 64 boxes, whatever is in it
-abbrev pub memory : List Float → Memory
-memory boxes = record { floats = begin .table .floats; counters = begin .table .counters; boxes = boxes }
+abbrev pub memory : Boxes → Memory
+memory boxes = record { floats = begin .table .floats; counters = begin .table .counters; labels = begin .table .labels; boxes = boxes }
 
 -- the texts of all calls together are what `trackbox` says of the whole input
 abbrev pub PrintedIs : Type 0
-PrintedIs = (bytes : List ℕ) (boxes : List Float) (n : ℕ) (out : List ℕ) → AreBytes bytes → length boxes ≡ lentBoxes
+PrintedIs = (bytes : List ℕ) (boxes : Boxes) (n : ℕ) (out : List ℕ) → AreBytes bytes → length (boxes .values) ≡ lentBoxes → length (boxes .labels) ≡ lentBoxLabels
     → Prints n (boxRecords bytes) (length bytes % boxBytes) start (memory boxes) out → out ≡ trackbox bytes

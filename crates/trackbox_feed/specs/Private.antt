@@ -5,7 +5,6 @@ use mathlib.Core.List.{List}
 use Prim.Native.Nat.{ℕ, _+_, _*_}
 use lib.Dec.{eqb, ltb}
 use lib.ListN.{length}
-use lib.Ieee.{Float}
 use Rattle.laws.specs.Splice.{splice}
 use Rattle.laws.specs.Tab.{tab}
 use Rattle.laws.specs.Laid.{rows}
@@ -15,13 +14,13 @@ use Rattle.records.specs.Field.{part}
 use Rattle.records.specs.TrackRecord.{trackBytes, trackOf}
 use Rattle.records.specs.Line.{line, refusedLine}
 use Rattle.boost_tracker_verdict.specs.declared.sound.State.{State}
+use Rattle.boost_tracker_verdict.specs.Boxes.{Boxes}
 use Rattle.trackbox_stream.specs.declared.rules.OpenFrame.{OpenFrame}
 use Rattle.trackbox_stream.specs.declared.rules.Next.{Next}
 use Rattle.trackbox_stream.specs.declared.rules.Next.the-variants as next
 use Rattle.trackbox_stream.specs.declared.rules.Ending.{Ending}
 use Rattle.trackbox_stream.specs.declared.rules.Ending.the-variants as ending
 use Rattle.trackbox_stream.specs.Rules.{number, nthAfter, judged, closed}
-use Rattle.trackbox_stream.specs.Boxes.{heldThen}
 use Rattle.trackbox_feed.specs.declared.frame.Task.{Task}
 use Rattle.trackbox_feed.specs.declared.frame.Task.the-variants as task
 use Rattle.trackbox_feed.specs.declared.frame.Worked.{Worked}
@@ -32,7 +31,7 @@ use Rattle.trackbox_feed.specs.declared.feed.Item.{Item}
 use Rattle.trackbox_feed.specs.declared.feed.Item.the-variants as item
 use Rattle.trackbox_feed.specs.declared.feed.Turn.{Turn}
 use Rattle.trackbox_feed.specs.declared.feed.Turn.the-variants as turn
-use Rattle.trackbox_feed.specs.Feed.{Lent, printed, Work, workWith, work, Call, callWith, front, againThen, laterThen, boxesThen, lastThen}
+use Rattle.trackbox_feed.specs.Feed.{Lent, printed, Work, workWith, work, Call, callWith, storedThen, front, againThen, laterThen, boxesThen, lastThen}
 
 -- ---- lines
 
@@ -76,15 +75,15 @@ taskOf opened (turn.Later r empty then) = openTask opened
 taskOf opened turn.Last = openTask opened
 taskOf opened (turn.Refused why nth) = task.Refused why nth
 
-abbrev pub taskWork : State → ℕ → Task → List Float → Lent → Work
+abbrev pub taskWork : State → ℕ → Task → Boxes → Lent → Work
 taskWork state nth task.Nothing boxes l = workWith (Done state 0) l
 taskWork state nth (task.Frame k) boxes l = work state nth (front k boxes) l
 taskWork state nth (task.Refused why last) boxes l = workWith (Stopped (length (refusedLine (number why) last))) (printed (refusedLine (number why) last) l)
 
 -- the boxes, of which `held` were held
-abbrev pub boxesTurn : ℕ → Turn → Worked → List Float → List Float
+abbrev pub boxesTurn : ℕ → Turn → Worked → Boxes → Boxes
 boxesTurn held turn.Empty worked boxes = boxes
-boxesTurn held (turn.Same r opened) worked boxes = heldThen r held boxes
+boxesTurn held (turn.Same r opened) worked boxes = storedThen r held boxes
 boxesTurn held (turn.Later r empty opened) worked boxes = boxesThen r worked boxes
 boxesTurn held turn.Last worked boxes = boxes
 boxesTurn held (turn.Refused why nth) worked boxes = boxes
@@ -96,7 +95,7 @@ answerTurn feed (turn.Later r empty opened) worked = laterThen empty opened work
 answerTurn feed turn.Last worked = lastThen worked
 answerTurn feed (turn.Refused why nth) worked = lastThen worked
 
-abbrev pub turnCall : Feed → Turn → Lent → List Float → Call
+abbrev pub turnCall : Feed → Turn → Lent → Boxes → Call
 turnCall feed t l boxes =
     let w : Work = taskWork (feed .table) (feed .opened .first) (taskOf (feed .opened) t) boxes l in
     callWith (answerTurn feed t (w .answer)) (w .lent) (boxesTurn (feed .opened .boxes) t (w .answer) boxes)

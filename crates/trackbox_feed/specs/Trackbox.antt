@@ -1,5 +1,6 @@
 -- The program trackbox. Document 01, "Records and limits": it "reads box records on standard input, lends for 64 tracks and 64 boxes, uses `det_thresh` 0.6, `iou_threshold` 0.3, `max_age` 30,
 -- `min_hits` 3 and otherwise `BoostTracker::new`'s settings". What it does with its records is Stream's; here is what a frame gives, by the tracker's definition.
+-- Document 02, N2: its box records have a label, and it prints none.
 use mathlib.Core.Path.{_≡_, refl}
 use mathlib.Core.Bool.{false}
 use mathlib.Core.List.{List, map}
@@ -17,11 +18,12 @@ use Rattle.boost_tracker_table.specs.declared.settings.Settings.{Settings}
 use Rattle.boost_tracker_verdict.specs.declared.sound.State.{State}
 use Rattle.boost_tracker_table.specs.Settings.{new}
 use Rattle.boost_tracker_table.specs.Table.{placeFloats, placeCounters}
-use Rattle.boost_tracker_table.specs.Lent.{Table, tableWith, tracksIn, holding}
-use Rattle.boost_tracker_table.specs.Record.{recordOf}
+use Rattle.boost_tracker_table.specs.Lent.{Table, tableWith, tracksIn, labelsIn, holding}
+use Rattle.boost_tracker_table.specs.Emission.{emittedInds, recordAt}
+use Rattle.boost_tracker_verdict.specs.Boxes.{Boxes, boxesWith}
 use Rattle.boost_tracker_verdict.specs.Verdict.{number, verdict}
-use Rattle.boost_tracker_definition.specs.Update.{Stages, update, stateAfter}
-use Rattle.trackbox_stream.specs.Boxes.{frameFloats}
+use Rattle.boost_tracker_definition.specs.Update.{Stages, update, stateAfter, labelsStarted, labelsRetained}
+use Rattle.trackbox_stream.specs.Boxes.{frameFloats, frameLabels}
 use Rattle.trackbox_stream.specs.Stream.{Frame, refused, accepted}
 use Rattle.trackbox_stream.specs.Stream as stream
 
@@ -54,20 +56,26 @@ pub record Tracker : Type 0 where
 abbrev pub trackerWith : State → Table → Tracker
 trackerWith state table = record { state = state; table = table }
 
-abbrev pub stages : Tracker → List Float → Stages
-stages t objects = update settings (t .state) objects (tracksIn (t .table) (t .state .count))
+-- the definition's value, and the labels of all trackers in it
+abbrev pub stages : Tracker → Boxes → Stages
+stages t objects = update settings (t .state) objects (tracksIn (t .table) (t .state .count)) (labelsIn (t .table) (t .state .count))
 
--- the records that a frame puts out
-abbrev pub recordsOf : Stages → List TrackRecord
-recordsOf g = map (recordOf (g .frameCount)) (g .output)
+abbrev pub labelsOf : Tracker → Boxes → Stages → List ℕ
+labelsOf t objects g = labelsStarted (objects .labels) (labelsIn (t .table) (t .state .count)) g
 
-abbrev pub frameThen : Verdict → Tracker → Stages → Frame Tracker
-frameThen Accepted t g = accepted (trackerWith (stateAfter g) (holding (g .retained) (t .table))) (recordsOf g)
-frameThen (Refused why) t g = refused (number why)
+-- the records that a frame puts out, by the labels of all trackers
+abbrev pub recordsOf : List ℕ → Stages → List TrackRecord
+recordsOf all g = map (recordAt (g .frameCount) (g .started .trackers) all) (emittedInds (g .frameCount) (settings .«min_hits») (g .started .trackers))
+
+abbrev pub frameThen : Verdict → Tracker → List ℕ → Stages → Frame Tracker
+frameThen Accepted t all g = accepted (trackerWith (stateAfter g) (holding (g .retained) (labelsRetained settings all g) (t .table))) (recordsOf all g)
+frameThen (Refused why) t all g = refused (number why)
 
 -- of so many bytes lent for the output, and so many f64 and f32 for work
-unfoldable pub frame : ℕ → ℕ → ℕ → Tracker → List Float → Frame Tracker
-frame out work64 work32 t objects = frameThen (verdict settings (t .state) (t .table .floats) (t .table .counters) objects out work64 work32) t (stages t objects)
+unfoldable pub frame : ℕ → ℕ → ℕ → Tracker → Boxes → Frame Tracker
+frame out work64 work32 t objects =
+    let g : Stages = stages t objects in
+    frameThen (verdict settings (t .state) (t .table) objects out work64 work32) t (labelsOf t objects g) g
 
 -- ---- the program
 
@@ -78,8 +86,16 @@ lentFloats = 64 * placeFloats
 abbrev pub lentCounters : ℕ
 lentCounters = 64 * placeCounters
 
+-- a byte a track
+abbrev pub lentLabels : ℕ
+lentLabels = 64
+
 abbrev pub lentBoxes : ℕ
 lentBoxes = 64 * boxValues
+
+-- a byte a box
+abbrev pub lentBoxLabels : ℕ
+lentBoxLabels = 64
 
 abbrev pub lentOutput : ℕ
 lentOutput = 64 * trackBytes
@@ -93,10 +109,13 @@ lentSingles = 4 * lentDoubles
 
 -- a table that is all zero
 abbrev pub begin : Tracker
-begin = trackerWith (record { count = 0; last = 0; frames = 0 }) (tableWith (replicate lentFloats plusZero) (replicate lentCounters 0))
+begin = trackerWith (record { count = 0; last = 0; frames = 0 }) (tableWith (replicate lentFloats plusZero) (replicate lentCounters 0) (replicate lentLabels 0))
+
+abbrev pub frameBoxes : List BoxRecord → Boxes
+frameBoxes rs = boxesWith (frameFloats rs) (frameLabels rs)
 
 abbrev pub updated : Tracker → List BoxRecord → Frame Tracker
-updated t rs = frame lentOutput lentDoubles lentSingles t (frameFloats rs)
+updated t rs = frame lentOutput lentDoubles lentSingles t (frameBoxes rs)
 
 -- the bytes that are printed for the bytes that are read
 unfoldable pub trackbox : List ℕ → List ℕ

@@ -12,9 +12,11 @@ use trackbox_stream::OpenFrame;
 use trackbox_stream::Refusal;
 use trackbox_stream::close;
 use trackbox_stream::hold;
+use trackbox_stream::hold_label;
 use trackbox_stream::judge;
 ghost use mathlib.Core.Path.{_≡_};
 ghost use Prim.Native.Nat.{_-_};
+ghost use Rattle.boost_tracker_verdict.specs.Boxes.{boxesWith};
 ghost use Rattle.trackbox_feed.specs.Feed as Spec;
 ghost use Rattle.trackbox_feed.specs.Feed.{lentWith, callWith};
 ghost use Rattle.trackbox_feed.specs.Private as Private;
@@ -132,23 +134,31 @@ fn task_of(opened: OpenFrame, turn: Turn) -> Task
 
 // ---- what follows of it
 
+// Stores the record's box and its label in place k.
+fn store(r: BoxRecord, k: usize, boxes: &mut [f32], box_labels: &mut [u8])
+    ensures { λ _. ⌜ boxesWith (now (boxes .exit)) (now («box_labels» .exit)) ≡ Spec.storedThen r k (boxesWith (now (boxes .entry)) (now («box_labels» .entry))) ⌝ }
+{
+    hold(r, k, boxes);
+    hold_label(r, k, box_labels);
+}
+
 // Stores the first box of a new frame, unless the frame before it was turned down.
-fn hold_first(r: BoxRecord, worked: Worked, boxes: &mut [f32])
-    ensures { λ _. ⌜ now (boxes .exit) ≡ Spec.boxesThen r worked (now (boxes .entry)) ⌝ }
+fn hold_first(r: BoxRecord, worked: Worked, boxes: &mut [f32], box_labels: &mut [u8])
+    ensures { λ _. ⌜ boxesWith (now (boxes .exit)) (now («box_labels» .exit)) ≡ Spec.boxesThen r worked (boxesWith (now (boxes .entry)) (now («box_labels» .entry))) ⌝ }
 {
     let Worked::Done(_, _) = worked else {
         return;
     };
-    hold(r, 0, boxes);
+    store(r, 0, boxes, box_labels);
 }
 
-fn hold_turn(held: usize, turn: Turn, worked: Worked, boxes: &mut [f32])
-    ensures { λ _. ⌜ now (boxes .exit) ≡ Private.boxesTurn held turn worked (now (boxes .entry)) ⌝ }
+fn hold_turn(held: usize, turn: Turn, worked: Worked, boxes: &mut [f32], box_labels: &mut [u8])
+    ensures { λ _. ⌜ boxesWith (now (boxes .exit)) (now («box_labels» .exit)) ≡ Private.boxesTurn held turn worked (boxesWith (now (boxes .entry)) (now («box_labels» .entry))) ⌝ }
 {
     match turn {
         Turn::Empty => {}
-        Turn::Same(r, _) => hold(r, held, boxes),
-        Turn::Later(r, _, _) => hold_first(r, worked, boxes),
+        Turn::Same(r, _) => store(r, held, boxes, box_labels),
+        Turn::Later(r, _, _) => hold_first(r, worked, boxes, box_labels),
         Turn::Last => {}
         Turn::Refused(_, _) => {}
     }
@@ -218,20 +228,24 @@ fn answer(feed: Feed, turn: Turn, worked: Worked) -> Fed
     }
 }
 
-// Hands a record or the end on. Lent are the table of tracks, the open frame's boxes, the records that a frame puts out, what its work needs, and the text.
+// Hands a record or the end on. Lent are the table of tracks, the open frame's boxes and their labels, the records that a frame puts out, what its work needs, and the text.
 pub fn take(
     feed: Feed,
     item: Item,
     floats: &mut [f32],
     counters: &mut [u64],
+    labels: &mut [u8],
     boxes: &mut [f32],
+    box_labels: &mut [u8],
     out: &mut [u8],
     work64: &mut [f64],
     work32: &mut [f32],
     text: &mut [u8],
 ) -> Fed
-    ensures { λ a. ⌜ callWith a (lentWith (now (floats .exit)) (now (counters .exit)) (now (out .exit)) (now (work64 .exit)) (now (work32 .exit)) (now (text .exit))) (now (boxes .exit))
-        ≡ Spec.fed feed item (lentWith (now (floats .entry)) (now (counters .entry)) (now (out .entry)) (now (work64 .entry)) (now (work32 .entry)) (now (text .entry))) (now (boxes .entry)) ⌝ }
+    ensures { λ a. ⌜ callWith a (lentWith (now (floats .exit)) (now (counters .exit)) (now (labels .exit)) (now (out .exit)) (now (work64 .exit)) (now (work32 .exit)) (now (text .exit)))
+        (boxesWith (now (boxes .exit)) (now («box_labels» .exit)))
+        ≡ Spec.fed feed item (lentWith (now (floats .entry)) (now (counters .entry)) (now (labels .entry)) (now (out .entry)) (now (work64 .entry)) (now (work32 .entry)) (now (text .entry)))
+        (boxesWith (now (boxes .entry)) (now («box_labels» .entry))) ⌝ }
 {
     if text.len() / LINE_BYTES <= out.len() / TRACK_BYTES {
         return Fed::Short;
@@ -245,12 +259,14 @@ pub fn take(
         task_of(opened, turn),
         floats,
         counters,
+        labels,
         boxes,
+        box_labels,
         out,
         work64,
         work32,
         text,
     );
-    hold_turn(feed.opened.boxes, turn, worked, boxes);
+    hold_turn(feed.opened.boxes, turn, worked, boxes, box_labels);
     answer(feed, turn, worked)
 }

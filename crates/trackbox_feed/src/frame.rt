@@ -11,6 +11,7 @@ use trackbox_stream::Refusal;
 ghost use mathlib.Core.Path.{_≡_};
 ghost use mathlib.Core.Bool.{true};
 ghost use lib.ListN.{length};
+ghost use Rattle.boost_tracker_verdict.specs.Boxes.{boxesWith};
 ghost use Rattle.trackbox_feed.specs.Trackbox as Trackbox;
 ghost use Rattle.trackbox_feed.specs.Feed.{lentWith, workWith, hasRoom};
 ghost use Rattle.trackbox_feed.specs.Private.{taskWork};
@@ -45,26 +46,32 @@ pub(crate) fn work_task(
     task: Task,
     floats: &mut [f32],
     counters: &mut [u64],
+    labels: &mut [u8],
     boxes: &[f32],
+    box_labels: &[u8],
     out: &mut [u8],
     work64: &mut [f64],
     work32: &mut [f32],
     text: &mut [u8],
 ) -> Worked
     requires { ⌜ hasRoom (length (now out)) (length (now text)) ≡ true ⌝ }
-    ensures { λ r. ⌜ workWith r (lentWith (now (floats .exit)) (now (counters .exit)) (now (out .exit)) (now (work64 .exit)) (now (work32 .exit)) (now (text .exit)))
-        ≡ taskWork state nth task (now (boxes .entry)) (lentWith (now (floats .entry)) (now (counters .entry)) (now (out .entry)) (now (work64 .entry)) (now (work32 .entry)) (now (text .entry))) ⌝ }
+    ensures { λ r. ⌜ workWith r (lentWith (now (floats .exit)) (now (counters .exit)) (now (labels .exit)) (now (out .exit)) (now (work64 .exit)) (now (work32 .exit)) (now (text .exit)))
+        ≡ taskWork state nth task (boxesWith (now (boxes .entry)) (now («box_labels» .entry)))
+        (lentWith (now (floats .entry)) (now (counters .entry)) (now (labels .entry)) (now (out .entry)) (now (work64 .entry)) (now (work32 .entry)) (now (text .entry))) ⌝ }
 {
     match task {
         Task::Nothing => Worked::Done(state, 0),
         Task::Frame(k) => {
             let end = smaller(k, boxes.len() / BOX_VALUES) * BOX_VALUES;
+            let labelled = smaller(k, box_labels.len());
             let answer = update(
                 settings(),
                 state,
                 floats,
                 counters,
+                labels,
                 &boxes[..end],
+                &box_labels[..labelled],
                 out,
                 work64,
                 work32,

@@ -40,6 +40,7 @@ fn track(out: &[u8], k: usize) -> TrackRecord
             width: 0.0,
             height: 0.0,
             confidence: 0.0,
+            label: 0,
         };
     };
     t

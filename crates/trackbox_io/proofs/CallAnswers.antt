@@ -6,11 +6,12 @@ use Prim.Native.Nat.{ℕ, zero, suc, _-_, _*_, _/_}
 use native.Mathlib.Omega.{arith}
 use lib.Dec.{ltb}
 use lib.ListN.{length, take, replicate, length-replicate}
-use lib.Ieee.{Float, nan}
+use lib.Ieee.{nan}
 use borrow.Author.Tests.{lt-ltb, ltb-true}
 use Rattle.records.specs.declared.box_record.BoxRecord.{BoxRecord}
 use Rattle.records.specs.TrackRecord.{trackBytes}
 use Rattle.records.specs.Line.{lineBytes}
+use Rattle.boost_tracker_verdict.specs.Boxes.{Boxes}
 use Rattle.trackbox_stream.specs.declared.rules.Next.{Next}
 use Rattle.trackbox_stream.specs.declared.rules.Next.the-variants as next
 use Rattle.trackbox_stream.specs.declared.rules.Ending.{Ending}
@@ -40,7 +41,7 @@ AtRecord empty (Again feed n) = empty ≡ suc (feed .empty)
 AtRecord empty (Ended n) = Unit {0}
 AtRecord empty Short = ⊥
 
-module _ (feed : Feed) (l : Lent) (boxes : List Float) (room : hasRoom (length (l .memory .output)) (length (l .text)) ≡ true) where
+module _ (feed : Feed) (l : Lent) (boxes : Boxes) (room : hasRoom (length (l .memory .output)) (length (l .text)) ≡ true) where
   one-less : ltb 0 (feed .empty) ≡ true → feed .empty ≡ suc (feed .empty - 1)
   one-less e = let h = ltb-true 0 (feed .empty) e in omega (arith, h)
 
@@ -144,7 +145,7 @@ module _ (m : Memory) (feed : Feed) where
   takes r = taken feed r (lentOf m lending) (m .boxes)
 
   one-end : (rest : ℕ) → ((then : Feed) (m : Memory) → feed .empty ≡ suc (then .empty) → Some [] rest then m)
-      → (x : Fed) (l : Lent) (boxes : List Float) → callWith x l boxes ≡ ends rest → AtEnd (feed .empty) x → Some [] rest feed m
+      → (x : Fed) (l : Lent) (boxes : Boxes) → callWith x l boxes ≡ ends rest → AtEnd (feed .empty) x → Some [] rest feed m
   one-end rest more (Taken then n) l boxes e never = absurd never
   one-end rest more (Again then n) l boxes e less =
       let next = more then (memoryOf l boxes) less in
@@ -158,7 +159,7 @@ module _ (m : Memory) (feed : Feed) where
   one-end rest more Short l boxes e never = absurd never
 
   one-record : (rest : ℕ) (r : BoxRecord) (rs : List BoxRecord) → ((then : Feed) (m : Memory) → Some rs rest then m) → ((then : Feed) (m : Memory) → feed .empty ≡ suc (then .empty) → Some (r ∷ rs) rest then m)
-      → (x : Fed) (l : Lent) (boxes : List Float) → callWith x l boxes ≡ takes r → AtRecord (feed .empty) x → Some (r ∷ rs) rest feed m
+      → (x : Fed) (l : Lent) (boxes : Boxes) → callWith x l boxes ≡ takes r → AtRecord (feed .empty) x → Some (r ∷ rs) rest feed m
   one-record rest r rs took more (Taken then n) l boxes e _ =
       let next = took then (memoryOf l boxes) in
       let out : List ℕ = take n (l .text) ++ next .out in

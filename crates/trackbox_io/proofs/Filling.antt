@@ -13,13 +13,13 @@ use Rattle.laws.specs.Tests.{and-left, and-right}
 use Rattle.records.specs.declared.box_record.BoxRecord.{BoxRecord}
 use Rattle.records.specs.BoxRecord.{boxBytes}
 use Rattle.trackbox_stream.specs.Stream.{boxRecords}
-use Rattle.trackbox_feed.specs.Trackbox.{lentBoxes}
+use Rattle.trackbox_feed.specs.Trackbox.{lentBoxes, lentBoxLabels}
 use Rattle.trackbox_feed.specs.Feed as calls
 use Rattle.trackbox_feed.specs.Laws.{Memory, Prints, memory}
 use Rattle.trackbox_io.specs.declared.calls.Input.{Input}
 use Rattle.trackbox_io.specs.declared.calls.Input.the-variants.{Bytes, Failed}
 use Rattle.trackbox_io.specs.declared.progress.Progress.{Progress}
-use Rattle.trackbox_io.specs.Turn.{inputBytes, start, spent, crowded, stopped, cleared, emptied, refilled, Arrays, withInput, Within, Empties, Fills}
+use Rattle.trackbox_io.specs.Turn.{inputBytes, start, spent, crowded, stopped, cleared, emptied, refilled, Arrays, boxesOf, withInput, Within, Empties, Fills}
 use Rattle.trackbox_io.specs.Laws.{waiting}
 use Rattle.trackbox_io.specs.Printed.{memoryIn, Onward, Along}
 use Rattle.trackbox_io.proofs.BufferRecords.{records-split, records-none}
@@ -29,14 +29,15 @@ use Rattle.trackbox_io.proofs.BufferRecords.{records-split, records-non
 pub records-of-none : boxRecords [] ≡ []
 records-of-none = records-none [] 0 refl
 
-pub start-along : (bytes : ℕ) (a : Arrays) → memoryIn a ≡ memory (a .boxes) → length (a .boxes) ≡ lentBoxes → Along (start bytes) a
-start-along bytes a e z = record {
+pub start-along : (bytes : ℕ) (a : Arrays) → memoryIn a ≡ memory (boxesOf a) → length (a .boxes) ≡ lentBoxes → length (a .boxLabels) ≡ lentBoxLabels → Along (start bytes) a
+start-along bytes a e z w = record {
   before = [];
   held = [];
   written = [];
   count = 0;
-  base = a .boxes;
+  base = boxesOf a;
   long = z;
+  long-labels = w;
   whole = refl;
   next-in = omega arith;
   full = λ _. refl;
@@ -44,8 +45,8 @@ start-along bytes a e z = record {
   many = refl;
   goes = λ _ n tail rest out o x.
       let y : Prints n tail rest calls.start (memoryIn a) out = subst (λ (l : List BoxRecord). Prints n (l ++ tail) rest calls.start (memoryIn a) out) records-of-none x in
-      let w : Prints n tail rest calls.start (memory (a .boxes)) out = subst (λ (m : Memory). Prints n tail rest calls.start m out) e y in
-      rw (zero-add n, records-of-none) w;
+      let first : Prints n tail rest calls.start (memory (boxesOf a)) out = subst (λ (m : Memory). Prints n tail rest calls.start m out) e y in
+      rw (zero-add n, records-of-none) first;
   done = λ q. absurd (true≢false q);
 }
 
@@ -65,6 +66,7 @@ cleared-along p a g l = record {
   count = l .count;
   base = l .base;
   long = l .long;
+  long-labels = l .long-labels;
   whole = l .whole;
   next-in = l .next-in;
   full = l .full;
@@ -85,6 +87,7 @@ stopped-along p a input g l = record {
   count = l .count;
   base = l .base;
   long = l .long;
+  long-labels = l .long-labels;
   whole = l .whole;
   next-in = l .next-in;
   full = l .full;
@@ -133,6 +136,7 @@ module _ (p : Progress) (a : Arrays) (after : List ℕ) (n : ℕ) (g : p .going 
     count = l .count;
     base = l .base;
     long = l .long;
+    long-labels = l .long-labels;
     whole = let s = length-append (l .before) (l .held) in let many = l .many in let full = l .full more-is in let whole = l .whole in omega (arith, s, many, full, whole);
     next-in = omega arith;
     full = λ q. let past = leb-true size n q in omega (arith, past, low, e);

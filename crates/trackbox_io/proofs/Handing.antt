@@ -26,7 +26,7 @@ use Rattle.trackbox_feed.specs.Feed as calls
 use Rattle.trackbox_feed.specs.Laws.{Memory, Scratch, Serves, square, Sized, lentOf, SaidOf, Prints, memory}
 use Rattle.trackbox_feed.proofs.Theorem.{printed-is}
 use Rattle.trackbox_io.specs.declared.progress.Progress.{Progress}
-use Rattle.trackbox_io.specs.Turn.{textBytes, callBytes, start, spent, later, answered, itemAt, Arrays, Sizes, Stands, Hands}
+use Rattle.trackbox_io.specs.Turn.{textBytes, callBytes, start, spent, later, answered, itemAt, Arrays, boxesOf, Sizes, Stands, Hands}
 use Rattle.trackbox_io.specs.Laws.{waiting, said}
 use Rattle.trackbox_io.specs.Printed.{memoryIn, Onward, Goes, Along}
 use Rattle.trackbox_io.proofs.Waiting.{waiting-grows}
@@ -74,7 +74,7 @@ module _ (p r : Progress) (a b : Arrays) (za : Sizes a) (zb : Sizes b) (st : Sta
   has-room = let o = sized .output in let t = sized .text in lt-ltb (length (a .output) / trackBytes) (length (drop (p .used) (a .text)) / lineBytes) (omega (arith, o, t))
 
   abbrev left : Fed → Call
-  left x = callWith x (lentWith (b .floats) (b .counters) (b .output) (h .doubles) (h .singles) (h .text)) (b .boxes)
+  left x = callWith x (lentWith (b .floats) (b .counters) (b .labels) (b .output) (h .doubles) (h .singles) (h .text)) (boxesOf b)
 
   -- what is known behind an answer
   abbrev after : Fed → Progress
@@ -90,8 +90,8 @@ module _ (p r : Progress) (a b : Arrays) (za : Sizes a) (zb : Sizes b) (st : Sta
   abbrev printed : List ℕ
   printed = l .written ++ waiting p a
 
-  call-of : {i : Item} → itemAt (p .next) (p .got) (a .input) ≡ i → left (h .answer) ≡ fed (p .feed) i lent (a .boxes)
-  call-of e = h .call ∙ ap (λ (i : Item). fed (p .feed) i lent (a .boxes)) e
+  call-of : {i : Item} → itemAt (p .next) (p .got) (a .input) ≡ i → left (h .answer) ≡ fed (p .feed) i lent (boxesOf a)
+  call-of e = h .call ∙ ap (λ (i : Item). fed (p .feed) i lent (boxesOf a)) e
 
   ok : (p .going || p .failed) ≡ true
   ok = going-or (p .going) (p .failed) g
@@ -127,7 +127,7 @@ module _ (p r : Progress) (a b : Arrays) (za : Sizes a) (zb : Sizes b) (st : Sta
         let text : printed ++ xs ≡ l .written ++ waiting (after x) b =
         append-assoc (l .written) (waiting p a) xs ∙ ap (λ (t : List ℕ). l .written ++ t) (sym waits) in
         sym text
-        ∙ printed-is (l .before ++ l .held) (l .base) (l .count + 1) (printed ++ xs) bytes (l .long)
+        ∙ printed-is (l .before ++ l .held) (l .base) (l .count + 1) (printed ++ xs) bytes (l .long) (l .long-labels)
         (subst (λ (k : ℕ). Whole (l .count + 1) (boxRecords (l .before ++ l .held)) k (printed ++ xs)) rest
         (subst (λ (t : List BoxRecord). Whole (l .count + 1) t (p .got % boxBytes) (printed ++ xs)) records y))
 
@@ -143,6 +143,7 @@ module _ (p r : Progress) (a b : Arrays) (za : Sizes a) (zb : Sizes b) (st : Sta
     count = l .count + 1;
     base = l .base;
     long = l .long;
+    long-labels = l .long-labels;
     whole = l .whole;
     next-in = subst (λ (k : ℕ). after x .next ≤ k / boxBytes) (sym got) next;
     full = λ q. ap (λ (k : ℕ). k % boxBytes) got ∙ l .full (sym more ∙ q);
@@ -245,7 +246,7 @@ module _ (p r : Progress) (a b : Arrays) (za : Sizes a) (zb : Sizes b) (st : Sta
       by-item : Dec (p .got / boxBytes ≤ p .next) → Along (after (h .answer)) b
       by-item (yes past) =
           end-along past (not-more past) (h .answer) refl
-          (subst (AtEnd (p .feed .empty)) (ap (λ (c : Call). c .answer) (sym (call-of (item-end (p .next) (p .got) (a .input) past)))) (finished-ends (p .feed) lent (a .boxes) has-room (p .got % boxBytes)))
+          (subst (AtEnd (p .feed .empty)) (ap (λ (c : Call). c .answer) (sym (call-of (item-end (p .next) (p .got) (a .input) past)))) (finished-ends (p .feed) lent (boxesOf a) has-room (p .got % boxBytes)))
       by-item (no rest) =
           let some = lt-of-not-le rest in
-          record-along some (h .answer) refl (subst (AtRecord (p .feed .empty)) (ap (λ (c : Call). c .answer) (sym (call-of (item-is some)))) (taken-records (p .feed) lent (a .boxes) has-room (rec some)))
+          record-along some (h .answer) refl (subst (AtRecord (p .feed .empty)) (ap (λ (c : Call). c .answer) (sym (call-of (item-is some)))) (taken-records (p .feed) lent (boxesOf a) has-room (rec some)))

@@ -102,7 +102,18 @@ turn-along p r a b za zb st g t sr l = by-going (t .ready .going) refl
         let space = empties-space p (t .flushed) (length (a .text)) (t .empties) (st .used) (za .text) (on .from) in
         let used = on .used in
         hands-along (t .ready) r (withInput (b .input) a) b
-        (record { input = zb .input; text = za .text; floats = za .floats; counters = za .counters; boxes = za .boxes; output = za .output; doubles = za .doubles; singles = za .singles })
+        (record {
+          input = zb .input;
+          text = za .text;
+          floats = za .floats;
+          counters = za .counters;
+          labels = za .labels;
+          boxes = za .boxes;
+          boxLabels = za .boxLabels;
+          output = za .output;
+          doubles = za .doubles;
+          singles = za .singles;
+        })
         zb sr e (omega (arith, space, used)) refl filled (t .hands .goes e) (on .ready)
     by-going false e =
         let k = t .hands .stays e in
@@ -113,7 +124,7 @@ turn-along p r a b za zb st g t sr l = by-going (t .ready .going) refl
 -- of what trackbox prints of every input that starts with the bytes that were read; where they are all there are, of what it prints of them
 pub prefix : (p : Progress) (a : Arrays) (l : Along p a) → (p .going || p .failed) ≡ true → (more : List ℕ) → (p .more ≡ false → more ≡ []) → AreBytes ((l .before ++ l .held) ++ more)
     → Prefix (l .written ++ waiting p a) (trackbox ((l .before ++ l .held) ++ more))
-prefix p a l g more last bytes = record { rest = follow .out; split = sym (printed-is all (l .base) (l .count + follow .calls-made) ((l .written ++ waiting p a) ++ follow .out) bytes (l .long) prints) }
+prefix p a l g more last bytes = record { rest = follow .out; split = sym (printed-is all (l .base) (l .count + follow .calls-made) ((l .written ++ waiting p a) ++ follow .out) bytes (l .long) (l .long-labels) prints) }
   where
     all : List ℕ
     all = (l .before ++ l .held) ++ more

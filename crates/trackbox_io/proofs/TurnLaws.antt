@@ -14,7 +14,7 @@ use Rattle.laws.specs.Tests.{and-left, and-right}
 use Rattle.trackbox_feed.specs.declared.feed.Item.{Item}
 use Rattle.trackbox_feed.specs.declared.feed.Fed.{Fed}
 use Rattle.trackbox_feed.specs.declared.feed.Fed.the-variants.{Taken, Again, Ended, Short}
-use Rattle.trackbox_feed.specs.Feed.{lentWith, callWith, fed}
+use Rattle.trackbox_feed.specs.Feed.{Lent, lentWith, callWith, fed}
 use Rattle.trackbox_io.specs.declared.calls.Input.{Input}
 use Rattle.trackbox_io.specs.declared.calls.Input.the-variants.{Bytes, Failed}
 use Rattle.trackbox_io.specs.declared.progress.Progress.{Progress}
@@ -22,7 +22,7 @@ use Rattle.trackbox_io.specs.declared.turns.Ran.{Ran}
 use Rattle.trackbox_io.specs.declared.turns.Ran.the-variants as ran
 use Rattle.trackbox_io.specs.Printed.{Along}
 use Rattle.trackbox_io.proofs.Theorem.{turn-along}
-use Rattle.trackbox_io.specs.Turn.{textBytes, inputBytes, Leaves, Ends, spent, crowded, emptied, refilled, answered, itemAt, Arrays, arrays, withInput, Sizes, Stands, Empties, Within, Fills, Needed, Handed, Turned}
+use Rattle.trackbox_io.specs.Turn.{textBytes, inputBytes, Leaves, Ends, spent, crowded, emptied, refilled, answered, itemAt, Arrays, boxesOf, withInput, Sizes, Stands, Empties, Within, Fills, Needed, Handed, Turned}
 
 -- ---- what waits is written out
 
@@ -75,26 +75,30 @@ module _ {X : Type 0} (n : ℕ) (l : List X) where
   put-all : (xs : List X) → putMid n (length l - n) l xs ≡ take n l ++ xs
   put-all xs = ap (λ (r : List X). take n l ++ (xs ++ r)) (ap (λ (k : ℕ). drop k (drop n l)) behind-is ∙ drop-length (drop n l)) ∙ ap (λ (r : List X). take n l ++ r) (append-nil xs)
 
-pub handed : (p : Progress) (input text : List ℕ) (f : List Float) (c : List ℕ) (b : List Float) (o : List ℕ) (d s : List Float)
-    (text′ : List ℕ) (f′ : List Float) (c′ : List ℕ) (b′ : List Float) (o′ : List ℕ) (d′ s′ d″ s″ : List Float) (cells : ℕ) (i : Item) (a : Fed) {r : Progress}
-    → not (p .going) ≡ false → Needed (p .feed .table .count) (p .feed .opened .boxes) cells → i ≡ itemAt (p .next) (p .got) input
-    → callWith a (lentWith f′ c′ o′ d′ s′ text′) b′ ≡ fed (p .feed) i (lentWith f c o (take cells d) (take (4 * cells) s) (midOf (p .used) (length text - p .used) text)) b
-    → r ≡ answered p (length text) a → Handed p r (arrays input text f c b o d s) (arrays input (putMid (p .used) (length text - p .used) text text′) f′ c′ b′ o′ d″ s″)
-handed p input text f c b o d s text′ f′ c′ b′ o′ d′ s′ d″ s″ cells i a h n e call q = record {
-  goes = λ _. record {
-    cells = cells;
-    needed = n;
-    answer = a;
-    doubles = d′;
-    singles = s′;
-    text = text′;
-    call = call ∙ ap (λ (x : Item). fed (p .feed) x (lentWith f c o (take cells d) (take (4 * cells) s) (midOf (p .used) (length text - p .used) text)) b) e
-        ∙ ap (λ (t : List ℕ). fed (p .feed) (itemAt (p .next) (p .got) input) (lentWith f c o (take cells d) (take (4 * cells) s) t) b) (mid-all (p .used) text);
-    behind = put-all (p .used) text text′;
-    so = q;
-  };
-  stays = λ g. absurd (true≢false (sym (no-no (p .going) h) ∙ g));
-}
+-- by the arrays a, of which b is left
+pub handed : (p : Progress) (a b : Arrays) (text : List ℕ) (doubles singles : List Float) (cells : ℕ) (i : Item) (x : Fed) {r : Progress}
+    → not (p .going) ≡ false → Needed (p .feed .table .count) (p .feed .opened .boxes) cells → i ≡ itemAt (p .next) (p .got) (a .input)
+    → callWith x (lentWith (b .floats) (b .counters) (b .labels) (b .output) doubles singles text) (boxesOf b)
+    ≡ fed (p .feed) i
+    (lentWith (a .floats) (a .counters) (a .labels) (a .output) (take cells (a .doubles)) (take (4 * cells) (a .singles)) (midOf (p .used) (length (a .text) - p .used) (a .text))) (boxesOf a)
+    → b .text ≡ putMid (p .used) (length (a .text) - p .used) (a .text) text → r ≡ answered p (length (a .text)) x → Handed p r a b
+handed p a b text doubles singles cells i x h n e call put q =
+    let lent : List ℕ → Lent = λ t. lentWith (a .floats) (a .counters) (a .labels) (a .output) (take cells (a .doubles)) (take (4 * cells) (a .singles)) t in
+    record {
+      goes = λ _. record {
+        cells = cells;
+        needed = n;
+        answer = x;
+        doubles = doubles;
+        singles = singles;
+        text = text;
+        call = call ∙ ap (λ (y : Item). fed (p .feed) y (lent (midOf (p .used) (length (a .text) - p .used) (a .text))) (boxesOf a)) e
+            ∙ ap (λ (t : List ℕ). fed (p .feed) (itemAt (p .next) (p .got) (a .input)) (lent t) (boxesOf a)) (mid-all (p .used) (a .text));
+        behind = put ∙ put-all (p .used) (a .text) text;
+        so = q;
+      };
+      stays = λ g. absurd (true≢false (sym (no-no (p .going) h) ∙ g));
+    }
 
 -- ---- what is known stays within the arrays
 

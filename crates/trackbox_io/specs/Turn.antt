@@ -9,12 +9,13 @@ use lib.ListN.{length, take, drop}
 use lib.Ieee.{Float}
 use Rattle.records.specs.Field.{part}
 use Rattle.records.specs.BoxRecord.{boxBytes, boxOf}
+use Rattle.boost_tracker_verdict.specs.Boxes.{Boxes, boxesWith}
 use Rattle.trackbox_feed.specs.declared.feed.Feed.{Feed}
 use Rattle.trackbox_feed.specs.declared.feed.Item.{Item}
 use Rattle.trackbox_feed.specs.declared.feed.Item.the-variants.{Record, End}
 use Rattle.trackbox_feed.specs.declared.feed.Fed.{Fed}
 use Rattle.trackbox_feed.specs.declared.feed.Fed.the-variants.{Taken, Again, Ended, Short}
-use Rattle.trackbox_feed.specs.Trackbox.{lentFloats, lentCounters, lentBoxes, lentOutput, lentDoubles, lentSingles}
+use Rattle.trackbox_feed.specs.Trackbox.{lentFloats, lentCounters, lentLabels, lentBoxes, lentBoxLabels, lentOutput, lentDoubles, lentSingles}
 use Rattle.trackbox_feed.specs.Feed.{lentWith, callWith, fed}
 use Rattle.trackbox_feed.specs.Feed as calls
 use Rattle.trackbox_feed.specs.Laws.{Serves, square}
@@ -90,14 +91,20 @@ pub record Arrays : Type 0 where
   pub text : List ℕ
   pub floats : List Float
   pub counters : List ℕ
+  pub labels : List ℕ
   pub boxes : List Float
+  pub boxLabels : List ℕ
   pub output : List ℕ
   pub doubles : List Float
   pub singles : List Float
 
-abbrev pub arrays : List ℕ → List ℕ → List Float → List ℕ → List Float → List ℕ → List Float → List Float → Arrays
-arrays input text floats counters boxes output doubles singles =
-    record { input = input; text = text; floats = floats; counters = counters; boxes = boxes; output = output; doubles = doubles; singles = singles }
+abbrev pub arrays : List ℕ → List ℕ → List Float → List ℕ → List ℕ → List Float → List ℕ → List ℕ → List Float → List Float → Arrays
+arrays input text floats counters labels boxes boxLabels output doubles singles =
+    record { input = input; text = text; floats = floats; counters = counters; labels = labels; boxes = boxes; boxLabels = boxLabels; output = output; doubles = doubles; singles = singles }
+
+-- the open frame's
+abbrev pub boxesOf : Arrays → Boxes
+boxesOf a = boxesWith (a .boxes) (a .boxLabels)
 
 -- as trackbox has them
 pub record Sizes (a : Arrays) : Type 0 where
@@ -105,7 +112,9 @@ pub record Sizes (a : Arrays) : Type 0 where
   pub text : length (a .text) ≡ textBytes
   pub floats : length (a .floats) ≡ lentFloats
   pub counters : length (a .counters) ≡ lentCounters
+  pub labels : length (a .labels) ≡ lentLabels
   pub boxes : length (a .boxes) ≡ lentBoxes
+  pub boxLabels : length (a .boxLabels) ≡ lentBoxLabels
   pub output : length (a .output) ≡ lentOutput
   pub doubles : length (a .doubles) ≡ lentDoubles
   pub singles : length (a .singles) ≡ lentSingles
@@ -148,9 +157,9 @@ pub record Hands (p r : Progress) (a b : Arrays) : Type 0 where
   pub doubles : List Float
   pub singles : List Float
   pub text : List ℕ
-  pub call : callWith answer (lentWith (b .floats) (b .counters) (b .output) doubles singles text) (b .boxes)
+  pub call : callWith answer (lentWith (b .floats) (b .counters) (b .labels) (b .output) doubles singles text) (boxesOf b)
       ≡ fed (p .feed) (itemAt (p .next) (p .got) (a .input))
-      (lentWith (a .floats) (a .counters) (a .output) (take cells (a .doubles)) (take (4 * cells) (a .singles)) (drop (p .used) (a .text))) (a .boxes)
+      (lentWith (a .floats) (a .counters) (a .labels) (a .output) (take cells (a .doubles)) (take (4 * cells) (a .singles)) (drop (p .used) (a .text))) (boxesOf a)
   -- it stands behind what waits
   pub behind : b .text ≡ take (p .used) (a .text) ++ text
   pub so : r ≡ answered p (length (a .text)) answer
@@ -163,7 +172,7 @@ pub record Handed (p r : Progress) (a b : Arrays) : Type 0 where
 -- ---- a turn
 
 abbrev pub withInput : List ℕ → Arrays → Arrays
-withInput input a = arrays input (a .text) (a .floats) (a .counters) (a .boxes) (a .output) (a .doubles) (a .singles)
+withInput input a = arrays input (a .text) (a .floats) (a .counters) (a .labels) (a .boxes) (a .boxLabels) (a .output) (a .doubles) (a .singles)
 
 pub record Turned (p r : Progress) (a b : Arrays) : Type 0 where
   pub flushed : Progress

@@ -12,10 +12,12 @@ use crate::progress::refilled;
 use crate::progress::spent;
 use crate::progress::start;
 use records::BOX_BYTES;
+use trackbox_feed::LENT_BOX_LABELS;
 use trackbox_feed::LENT_BOXES;
 use trackbox_feed::LENT_COUNTERS;
 use trackbox_feed::LENT_DOUBLES;
 use trackbox_feed::LENT_FLOATS;
+use trackbox_feed::LENT_LABELS;
 use trackbox_feed::LENT_OUTPUT;
 use trackbox_feed::LENT_SINGLES;
 ghost use Prim.Native.Nat.{_≤_};
@@ -76,16 +78,19 @@ fn hand(
     input: &[u8],
     floats: &mut [f32],
     counters: &mut [u64],
+    labels: &mut [u8],
     boxes: &mut [f32],
+    box_labels: &mut [u8],
     out: &mut [u8],
     work64: &mut [f64],
     work32: &mut [f32],
     text: &mut [u8],
 ) -> Progress
     requires { ⌜ Spec.Stands p ⌝ }
-    requires { ⌜ Spec.Sizes (arrays (now input) (now text) (now floats) (now counters) (now boxes) (now out) (now work64) (now work32)) ⌝ }
-    ensures { λ r. ⌜ Spec.Handed p r (arrays (now (input .entry)) (now (text .entry)) (now (floats .entry)) (now (counters .entry)) (now (boxes .entry)) (now (out .entry)) (now (work64 .entry)) (now (work32 .entry)))
-        (arrays (now (input .entry)) (now (text .exit)) (now (floats .exit)) (now (counters .exit)) (now (boxes .exit)) (now (out .exit)) (now (work64 .exit)) (now (work32 .exit))) ⌝ }
+    requires { ⌜ Spec.Sizes (arrays (now input) (now text) (now floats) (now counters) (now labels) (now boxes) (now «box_labels») (now out) (now work64) (now work32)) ⌝ }
+    ensures { λ r. ⌜ Spec.Handed p r
+        (arrays (now (input .entry)) (now (text .entry)) (now (floats .entry)) (now (counters .entry)) (now (labels .entry)) (now (boxes .entry)) (now («box_labels» .entry)) (now (out .entry)) (now (work64 .entry)) (now (work32 .entry)))
+        (arrays (now (input .entry)) (now (text .exit)) (now (floats .exit)) (now (counters .exit)) (now (labels .exit)) (now (boxes .exit)) (now («box_labels» .exit)) (now (out .exit)) (now (work64 .exit)) (now (work32 .exit))) ⌝ }
 {
     if !p.going {
         return p;
@@ -100,7 +105,9 @@ fn hand(
         item(p.next, p.got, input),
         floats,
         counters,
+        labels,
         boxes,
+        box_labels,
         out,
         &mut work64[..cells],
         &mut work32[..cells32],
@@ -115,15 +122,18 @@ fn turn(
     text: &mut [u8],
     floats: &mut [f32],
     counters: &mut [u64],
+    labels: &mut [u8],
     boxes: &mut [f32],
+    box_labels: &mut [u8],
     out: &mut [u8],
     work64: &mut [f64],
     work32: &mut [f32],
 ) -> Progress
     requires { ⌜ Spec.Stands p ⌝ }
-    requires { ⌜ Spec.Sizes (arrays (now input) (now text) (now floats) (now counters) (now boxes) (now out) (now work64) (now work32)) ⌝ }
-    ensures { λ r. ⌜ Spec.Turned p r (arrays (now (input .entry)) (now (text .entry)) (now (floats .entry)) (now (counters .entry)) (now (boxes .entry)) (now (out .entry)) (now (work64 .entry)) (now (work32 .entry)))
-        (arrays (now (input .exit)) (now (text .exit)) (now (floats .exit)) (now (counters .exit)) (now (boxes .exit)) (now (out .exit)) (now (work64 .exit)) (now (work32 .exit))) ⌝ }
+    requires { ⌜ Spec.Sizes (arrays (now input) (now text) (now floats) (now counters) (now labels) (now boxes) (now «box_labels») (now out) (now work64) (now work32)) ⌝ }
+    ensures { λ r. ⌜ Spec.Turned p r
+        (arrays (now (input .entry)) (now (text .entry)) (now (floats .entry)) (now (counters .entry)) (now (labels .entry)) (now (boxes .entry)) (now («box_labels» .entry)) (now (out .entry)) (now (work64 .entry)) (now (work32 .entry)))
+        (arrays (now (input .exit)) (now (text .exit)) (now (floats .exit)) (now (counters .exit)) (now (labels .exit)) (now (boxes .exit)) (now («box_labels» .exit)) (now (out .exit)) (now (work64 .exit)) (now (work32 .exit))) ⌝ }
 {
     let ready = read_on(empty(p, text), input);
     hand(
@@ -131,7 +141,9 @@ fn turn(
         input,
         floats,
         counters,
+        labels,
         boxes,
+        box_labels,
         out,
         work64,
         work32,
@@ -171,7 +183,9 @@ pub fn run(bytes: u64) -> Ran
     let mut text = [0u8; TEXT_BYTES];
     let mut floats = [0.0f32; LENT_FLOATS];
     let mut counters = [0u64; LENT_COUNTERS];
+    let mut labels = [0u8; LENT_LABELS];
     let mut boxes = [0.0f32; LENT_BOXES];
+    let mut box_labels = [0u8; LENT_BOX_LABELS];
     let mut out = [0u8; LENT_OUTPUT];
     let mut work64 = [0.0f64; LENT_DOUBLES];
     let mut work32 = [0.0f32; LENT_SINGLES];
@@ -184,7 +198,9 @@ pub fn run(bytes: u64) -> Ran
             &mut text,
             &mut floats,
             &mut counters,
+            &mut labels,
             &mut boxes,
+            &mut box_labels,
             &mut out,
             &mut work64,
             &mut work32,

@@ -1,4 +1,4 @@
--- Each return of `nth_after`, `judge`, `close` and `hold` is the definition's case where the tests are as that return found them. Assumes nothing.
+-- Each return of `nth_after`, `judge`, `close`, `hold` and `hold_label` is the definition's case where the tests are as that return found them. Assumes nothing.
 use mathlib.Core.Path.{_≡_, refl, ap, _∙_}
 use mathlib.Core.Bool.{true, _||_}
 use mathlib.Core.List.{List}
@@ -6,7 +6,7 @@ use Prim.Native.Nat.{ℕ, _+_, _-_, _*_, _/_, _≤_, _<_}
 use native.Mathlib.Omega.{arith}
 use lib.Dec.{eqb, ltb}
 use lib.Ieee.{Float}
-use lib.ListN.{length}
+use lib.ListN.{length, set}
 use borrow.Author.Tests.{lt-ltb, le-ltb, le-leb, lt-leb}
 use borrow.Rule.Slice.PartMut.{putMid}
 use Rattle.laws.specs.Splice.{mid-splice}
@@ -17,7 +17,7 @@ use Rattle.trackbox_stream.specs.declared.rules.Refusal.the-variants.{Re
 use Rattle.trackbox_stream.specs.declared.rules.Next.the-variants as next
 use Rattle.trackbox_stream.specs.declared.rules.Ending.the-variants as ending
 use Rattle.trackbox_stream.specs.Rules.{nthAfter, opened, grown, judged, closed}
-use Rattle.trackbox_stream.specs.Boxes.{boxFloats, heldThen}
+use Rattle.trackbox_stream.specs.Boxes.{boxFloats, heldThen, labelThen}
 use Rattle.trackbox_stream.proofs.Cases.{Ahead}
 
 -- the record behind n has the next number, up to the largest u64
@@ -70,3 +70,11 @@ stored r k l vs h e = rw (lt-ltb k (length l / boxValues) h, e) (mid-splice l (k
 pub not-stored : (r : BoxRecord) (k : ℕ) (l : List Float) → length l / boxValues ≤ k → l ≡ heldThen r k l
 unfolding heldThen
 not-stored r k l h = rw (le-ltb k (length l / boxValues) h)
+
+pub label-stored : (r : BoxRecord) (k : ℕ) (l : List ℕ) → k < length l → set l k (r .label) ≡ labelThen r k l
+unfolding labelThen
+label-stored r k l h = rw (lt-ltb k (length l) h)
+
+pub label-not-stored : (r : BoxRecord) (k : ℕ) (l : List ℕ) → length l ≤ k → l ≡ labelThen r k l
+unfolding labelThen
+label-not-stored r k l h = rw (le-ltb k (length l) h)

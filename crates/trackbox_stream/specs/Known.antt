@@ -17,7 +17,7 @@ use Rattle.records.specs.Line.{line, refusedLine}
 use Rattle.trackbox_stream.specs.Stream.{work, refuse, lastFrame, boxesOf, earlier, frameWork, frames, refusalOf, passing, done, events, boxRecords, Frame, refused, accepted, printedWith, prints, printing, trackbox}
 
 abbrev box : ℕ → BoxRecord
-box f = record { frame = f; left = nan; top = nan; width = nan; height = nan; score = nan }
+box f = record { frame = f; left = nan; top = nan; width = nan; height = nan; score = nan; label = 1 }
 
 -- frames before the first record and between two are empty, and name the record after them; frame 4 names its first
 pub skipped-known : events (box 2 ∷ box 4 ∷ box 4 ∷ []) 0 ≡ work 1 [] 1 ∷ work 2 (box 2 ∷ []) 1 ∷ work 3 [] 2 ∷ work 4 (box 4 ∷ box 4 ∷ []) 2 ∷ []

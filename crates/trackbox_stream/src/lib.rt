@@ -3,6 +3,7 @@ mod boxes;
 mod rules;
 
 pub use boxes::hold;
+pub use boxes::hold_label;
 pub use rules::Ending;
 pub use rules::Next;
 pub use rules::OpenFrame;

@@ -2,9 +2,11 @@
 // the end of the input every word is 0.
 ghost use mathlib.Core.Path.{_≡_};
 ghost use Prim.Native.Nat.{_≤_, _<_};
+ghost use lib.ListN.{length, take};
 ghost use lib.Ieee.{nan};
 ghost use Rattle.vectors.specs.Words.{wordOf, RestIs};
 use crate::floats::float_of;
+use crate::lent;
 
 // The number of four bytes.
 fn word_of(a: u8, b: u8, c: u8, d: u8) -> u32
@@ -67,4 +69,13 @@ pub fn counts(given: usize, rest: u32, out: &mut [u32])
     for k in 0..out.len() {
         out[k] = count_or(k, given, rest);
     }
+}
+
+// The next n bytes, in the front of a slice: that part, lent. Which bytes they are no contract can say.
+pub fn bytes(s: &mut [u8], n: u64) -> &mut [u8]
+    ensures { λ r. ⌜ length (now r) ≡ length (take n (now (s .entry))) ⌝ }
+{
+    let part = lent::bytes(s, n);
+    io::read_full(0, part);
+    part
 }

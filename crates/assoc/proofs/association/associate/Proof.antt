@@ -10,11 +10,11 @@ use Rattle.assoc.proofs.association.associate.Statement.{statement}
 use Rattle.assoc.proofs.association.associate.Tie as tie
 
 returns : tie.Need-returns
-returns c = associate-refused _ _ _ _ _ _ _ _ _ (c .before .before .before .associate-verdict .ensures) (c .before .verdict .given .1)
+returns c = associate-refused _ _ _ _ _ _ _ _ _ _ _ (c .before .before .before .associate-verdict .ensures) (c .before .verdict .given .1)
 
 liken-requires : tie.Need-liken-requires
 liken-requires c κs =
-    let ready = associate-ready _ _ _ _ _ _ _ _ _ _ _ (sym (c .before .before .before .associate-verdict .ensures) ∙ c .before .enum-told .given .1) in
+    let ready = associate-ready _ _ _ _ _ _ _ _ _ _ _ _ _ (sym (c .before .before .before .associate-verdict .ensures) ∙ c .before .enum-told .given .1) in
     let room = ready .0 .cornered .room in
     ((ready .0 .cornered .few-rows, ready .0 .cornered .few-cols, omega arith), ready .1)
 
@@ -41,13 +41,13 @@ abbrev after-slice-known3 : tie.After-slice-known13 → tie.After-slice-known3
 after-slice-known3 c = after-liken c .before .before .before .before .before .before .before .before
 
 abbrev start : tie.After-slice-known13 → tie.Start
-start c = after-slice-known3 c .before .before .before .before .before .before .before .before
+start c = after-slice-known3 c .before .before .before .before .before .before .before .before .before .before
 
 pair-up-requires : tie.Need-pair-up-requires
 pair-up-requires c κs =
     let verdict = after-liken·pair-up-requires c .before .before .before .before .associate-verdict .ensures in
     let accepted = after-liken·pair-up-requires c .before .before .enum-told .given .1 in
-    rw (after-liken·pair-up-requires c .liken .kept .1 .1 .1 .1 .0) (associate-ready _ _ _ _ _ _ _ _ _ _ _ (sym verdict ∙ accepted) .0 .cornered)
+    rw (after-liken·pair-up-requires c .liken .kept .1 .1 .1 .1 .0) (associate-ready _ _ _ _ _ _ _ _ _ _ _ _ _ (sym verdict ∙ accepted) .0 .cornered)
 
 returns-3 : tie.Need-returns-3
 returns-3 c =
@@ -56,11 +56,11 @@ returns-3 c =
     let accepted = after-liken c .before .before .enum-told .given .1 in
     let liken = after-liken c .liken in
     let lent = lentWith (now (a .pair-boxes)) (now (a .pair-tracks)) (now (a .unmatched-detections)) (now (a .unmatched-tracks)) (now (a .work64)) (now (a .work32)) in
-    let fits = associate-ready _ _ _ _ _ _ _ _ _ _ _ (sym verdict ∙ accepted) .0 in
+    let fits = associate-ready _ _ _ _ _ _ _ _ _ _ _ _ _ (sym verdict ∙ accepted) .0 in
     after-pair-up c .pair-up .ensures
     ∙ paired-is (a .params) (a .boxes) (a .tracks) (now (a .detections)) (now (a .corners)) (now (a .mahalanobis)) (now (a .track-confidence)) (now (a .detection-confidence))
-    lent (fits .assigned) (liken .ensures .1) (liken .kept .1 .1 .1 .1 .0)
-    ∙ associate-accepted _ _ _ _ _ _ _ _ _ (sym verdict ∙ accepted)
+    (now (a .box-labels)) (now (a .track-labels)) lent fits (liken .ensures .1) (liken .kept .1 .1 .1 .1 .0)
+    ∙ associate-accepted _ _ _ _ _ _ _ _ _ _ _ (sym verdict ∙ accepted)
 
 pub associate-spec : {M : Type 1} → statement M
 associate-spec =
@@ -75,8 +75,8 @@ associate-spec =
     (λ c. absurd (not-refused (after-liken·same-length c .liken .ensures .0) (c .before .likened .given .1)))
     (λ c. search needs)
     pair-up-requires
-    (λ c. after-pair-up c .pair-up .kept .1 .1 .1 .1 .1 .1 .1 .0) (λ c. after-pair-up c .pair-up .kept .1 .1 .1 .1 .1 .1 .1 .1 .0)
     (λ c. after-pair-up c .pair-up .kept .1 .1 .1 .1 .1 .1 .1 .1 .1 .0) (λ c. after-pair-up c .pair-up .kept .1 .1 .1 .1 .1 .1 .1 .1 .1 .1 .0)
-    (λ c. after-pair-up c .pair-up .kept .1 .1 .1 .1 .1 .1 .1 .1 .1 .1 .1 .0)
-    (λ c. after-pair-up c .pair-up .kept .1 .1 .1 .1 .1 .1 .1 .1 .1 .1 .1 .1 .0 ∙ after-liken c .liken .kept .1 .1 .1 .1 .0)
+    (λ c. after-pair-up c .pair-up .kept .1 .1 .1 .1 .1 .1 .1 .1 .1 .1 .1 .0) (λ c. after-pair-up c .pair-up .kept .1 .1 .1 .1 .1 .1 .1 .1 .1 .1 .1 .1 .0)
+    (λ c. after-pair-up c .pair-up .kept .1 .1 .1 .1 .1 .1 .1 .1 .1 .1 .1 .1 .1 .0)
+    (λ c. after-pair-up c .pair-up .kept .1 .1 .1 .1 .1 .1 .1 .1 .1 .1 .1 .1 .1 .1 .0 ∙ after-liken c .liken .kept .1 .1 .1 .1 .0)
     returns-3)

@@ -12,7 +12,7 @@ use Rattle.assoc.proofs.association.associate_within.Statement.{stateme
 use Rattle.assoc.proofs.association.associate_within.Tie as tie
 
 returns : tie.Need-returns
-returns c = within-refused _ _ _ _ _ _ _ _ (c .before .before .before .within-verdict .ensures) (c .before .verdict .given .1)
+returns c = within-refused _ _ _ _ _ _ _ _ _ _ (c .before .before .before .within-verdict .ensures) (c .before .verdict .given .1)
 
 liken-within-requires : tie.Need-liken-within-requires
 liken-within-requires c κs =
@@ -43,7 +43,7 @@ abbrev after-slice-known4 : tie.After-slice-known13 → tie.After-slice-known4
 after-slice-known4 c = after-liken-within c .before .before .before .before .before .before .before
 
 abbrev start : tie.After-slice-known13 → tie.Start
-start c = after-slice-known4 c .before .before .before .before .before .before .before .before
+start c = after-slice-known4 c .before .before .before .before .before .before .before .before .before .before
 
 pair-up-requires : tie.Need-pair-up-requires
 pair-up-requires c κs =
@@ -61,8 +61,8 @@ returns-3 c =
     let fits = within-ready _ _ _ _ _ _ _ _ _ _ (sym verdict ∙ accepted) in
     after-pair-up c .pair-up .ensures
     ∙ paired-is (a .params) (a .boxes) (a .tracks) (now (a .detections)) (now (a .corners)) (take (a .boxes * a .tracks) (now (a .work32))) (now (a .track-confidence)) (now (a .detection-confidence))
-    lent (fits .assigned) (liken-within .ensures .1) (liken-within .kept .1 .1 .1 .0)
-    ∙ within-accepted _ _ _ _ _ _ _ _ (sym verdict ∙ accepted)
+    (now (a .box-labels)) (now (a .track-labels)) lent fits (liken-within .ensures .1) (liken-within .kept .1 .1 .1 .0)
+    ∙ within-accepted _ _ _ _ _ _ _ _ _ _ (sym verdict ∙ accepted)
 
 pub associate-within-spec : {M : Type 1} → statement M
 associate-within-spec =
@@ -77,8 +77,8 @@ associate-within-spec =
     (λ c. absurd (not-refused (after-liken-within·same-length c .liken-within .ensures .0) (c .before .likened .given .1)))
     (λ c. search needs)
     pair-up-requires
-    (λ c. after-pair-up c .pair-up .kept .1 .1 .1 .1 .1 .1 .1 .0) (λ c. after-pair-up c .pair-up .kept .1 .1 .1 .1 .1 .1 .1 .1 .0)
     (λ c. after-pair-up c .pair-up .kept .1 .1 .1 .1 .1 .1 .1 .1 .1 .0) (λ c. after-pair-up c .pair-up .kept .1 .1 .1 .1 .1 .1 .1 .1 .1 .1 .0)
-    (λ c. after-pair-up c .pair-up .kept .1 .1 .1 .1 .1 .1 .1 .1 .1 .1 .1 .0)
-    (λ c. after-pair-up c .pair-up .kept .1 .1 .1 .1 .1 .1 .1 .1 .1 .1 .1 .1 .0 ∙ after-liken-within c .liken-within .kept .1 .1 .1 .0)
+    (λ c. after-pair-up c .pair-up .kept .1 .1 .1 .1 .1 .1 .1 .1 .1 .1 .1 .0) (λ c. after-pair-up c .pair-up .kept .1 .1 .1 .1 .1 .1 .1 .1 .1 .1 .1 .1 .0)
+    (λ c. after-pair-up c .pair-up .kept .1 .1 .1 .1 .1 .1 .1 .1 .1 .1 .1 .1 .1 .0)
+    (λ c. after-pair-up c .pair-up .kept .1 .1 .1 .1 .1 .1 .1 .1 .1 .1 .1 .1 .1 .1 .0 ∙ after-liken-within c .liken-within .kept .1 .1 .1 .0)
     returns-3)

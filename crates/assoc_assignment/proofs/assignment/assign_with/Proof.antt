@@ -3,6 +3,7 @@ use mathlib.Core.Path.{_∙_}
 use borrow.Author.Needs.{needs}
 use denote.Ref.{now}
 use Rattle.assoc_matching.proofs.EndLaws.{partner-not-refused, partners-found}
+use Rattle.assoc_assignment.specs.Assignment.{validMatch}
 use Rattle.assoc_assignment.specs.Answers.{lentWith}
 use Rattle.assoc_assignment.proofs.ListLaws.{rowed, assignment-done}
 use Rattle.assoc_assignment.proofs.assignment.assign_with.Statement.{statement}
@@ -52,7 +53,7 @@ list-requires c κs =
     let found = after-find-partners·list-requires c .find-partners in
     let rows = found .kept .1 .1 .1 .1 .1 .0 ∙ start .pre .1 in (
       record { few-rows = ready .few-rows; few-cols = ready .few-cols; long = ready .long-iou },
-      (rowed (now (start .args .iou)) _ _ _ _ (ready .few-rows) (ready .few-cols) (found .ensures .pairs) rows, ready .room-lists),
+      (rowed _ _ _ _ (ready .few-rows) (ready .few-cols) (found .ensures .pairs) rows, ready .room-lists),
     )
 
 returns : tie.Need-returns
@@ -64,7 +65,7 @@ returns-2 c =
     let a = start .args in
     let ready = start .pre .0 in
     let found = after-find-partners c .find-partners .ensures in
-    assignment-done (now (a .iou)) (now (a .cost)) (a .nrows) (a .ncols) (a .threshold) (ready .few-rows) (ready .few-cols)
+    assignment-done (now (a .cost)) (a .nrows) (a .ncols) (a .threshold) (ready .few-rows) (ready .few-cols) (validMatch (now (a .iou)) (a .ncols) (a .threshold))
     (lentWith (now (a .boxes)) (now (a .tracks)) (now (a .detections)) (now (a .left)) (now (a .work)))
     (partners-found (after-answer2 c .answer2 .given .1) (found .pairs)) (after-list c .list .ensures) (found .cleared)
 

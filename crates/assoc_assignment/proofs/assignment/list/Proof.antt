@@ -48,7 +48,7 @@ returns : tie.Need-returns
 returns c =
     let start = start c in
     let a = start .args in
-    both-listed (now (a .iou)) (a .nrows) (a .ncols) (a .threshold) (held (a .ncols) (now (a .partner))) (listsWith (now (a .boxes)) (now (a .tracks)) (now (a .detections)) (now (a .left)))
+    both-listed _ (a .nrows) (a .ncols) (held (a .ncols) (now (a .partner))) (listsWith (now (a .boxes)) (now (a .tracks)) (now (a .detections)) (now (a .left)))
     (start .pre .1 .0 .long) (after-write-picked c .write-picked .ensures) (c .before .before .before .before .leave .ensures)
 
 pub list-spec : {M : Type 1} → statement M

@@ -9,7 +9,7 @@ abbrev after-out : tie.After-of-update → tie.After-out
 after-out c = c .before .before .before .before .before .before
 
 abbrev after-update : tie.After-out → tie.After-update
-after-update c = c .before .before .before .before .before
+after-update c = c .before .before .before .before .before .before .before
 
 returns : tie.Need-returns
 returns c = update-in-c _ (c .of-update .ensures) (after-update (after-out c) .update .ensures)
@@ -20,6 +20,7 @@ bedside-update-spec =
     (tie.spec
     (λ c κs. search needs)
     (λ c κs. search needs)
+    (λ c. search needs)
     (λ c. search needs)
     (λ c. search needs)
     (λ c. search needs)

@@ -7,7 +7,7 @@ use Rattle.boost_tracker_dlo.proofs.dlo.boost_rows.Tie as tie
 
 -- The places that the answers go back to.
 abbrev start·slice-aggregate-boost-rows-with : tie.After-sbiou → tie.Start
-start·slice-aggregate-boost-rows-with c = c .before .before .before .before .before .before .before .before
+start·slice-aggregate-boost-rows-with c = c .before .before .before .before .before .before .before .before .before .before
 
 abbrev start : tie.After-row → tie.Start
 start c = start·slice-aggregate-boost-rows-with (c .before)
@@ -23,5 +23,5 @@ boost-rows-spec =
     (λ c. search needs)
     (λ c. sym (length-take-le _ _ (start c .pre .few)))
     boost-rows-with-requires
-    (λ c. c .before .before .before .before .boost-rows-with .kept .1 .1 .1 .1 .1 .1 .0)
+    (λ c. c .before .before .before .before .boost-rows-with .kept .1 .1 .1 .1 .1 .1 .1 .1 .0)
     (λ c. c .before .before .before .before .boost-rows-with .ensures))

@@ -7,47 +7,48 @@ use mathlib.Core.Path.{_≡_, _∙_, sym, refl}
 use native.Mathlib.Nat.{le-refl}
 use native.Mathlib.Omega.{arith}
 use Rattle.boost_tracker_dlo.specs.Private.{boostedScore}
-use Rattle.laws.specs.Grid.{row-ends, row-inside}
+use Rattle.labels.specs.Label.{labelAt}
+use Rattle.laws.specs.Grid.{row-ends}
 use Rattle.laws.specs.Tab.{Filling, fill-ahead, fill-on, fill-start, fill-whole}
 use Rattle.boost_tracker_dlo.proofs.dlo.boost_rows_with.Statement.{statement}
 use Rattle.boost_tracker_dlo.proofs.dlo.boost_rows_with.Tie as tie
 
 abbrev Inv-loop : tie.InvT-loop
-Inv-loop q detections trks confs mhd since scores₀ sbiou₀ row₀ i₀ scores sbiou row i =
-    Filling (λ k. boostedScore q detections trks confs mhd since k (getD scores₀ k nan)) scores₀ (length scores₀) i scores
+Inv-loop q detections trks confs mhd since boxes tracks scores₀ sbiou₀ row₀ i₀ scores sbiou row i =
+    Filling (λ k. boostedScore q detections trks confs mhd since (labelAt boxes k) tracks k (getD scores₀ k nan)) scores₀ (length scores₀) i scores
     × ((length sbiou ≡ length since) × (length row ≡ length since))
 
 abbrev μ-loop : tie.MeasureT-loop
-μ-loop q detections trks confs mhd since scores₀ sbiou₀ row₀ i₀ scores sbiou row i = length scores₀ - i
+μ-loop q detections trks confs mhd since boxes tracks scores₀ sbiou₀ row₀ i₀ scores sbiou row i = length scores₀ - i
 
 -- The places that the answers go back to.
 abbrev start·loop-holds : tie.After-slice-known3 Inv-loop μ-loop → tie.Start Inv-loop μ-loop
-start·loop-holds c = c .before .before .before .before .before .before .before .before
+start·loop-holds c = c .before .before .before .before .before .before .before .before .before .before
 
 abbrev start·returns : tie.After-loop Inv-loop μ-loop → tie.Start Inv-loop μ-loop
 start·returns c = start·loop-holds (c .before .before)
 
-abbrev start·boosted-requires : tie.After-boosted-arg2 Inv-loop μ-loop → tie.Start Inv-loop μ-loop
-start·boosted-requires c = start·loop-holds (c .before .before .before .before .before)
+abbrev at-loop : tie.After-boosted-arg2 Inv-loop μ-loop → tie.At-loop Inv-loop μ-loop
+at-loop c = c .before .before .before .before .before
 
-abbrev in-loop : tie.After-slice-known6 Inv-loop μ-loop → tie.In-loop Inv-loop μ-loop
-in-loop c = c .before .before .before .before .before .before .before .before
+abbrev start : tie.After-boosted-arg2 Inv-loop μ-loop → tie.Start Inv-loop μ-loop
+start c = start·loop-holds (at-loop c .before)
 
-abbrev start : tie.After-slice-known6 Inv-loop μ-loop → tie.Start Inv-loop μ-loop
-start c = start·loop-holds (in-loop c .before .before)
+abbrev start·loop-again : tie.After-slice-known6 Inv-loop μ-loop → tie.Start Inv-loop μ-loop
+start·loop-again c = start (c .before .before .before .before .before)
 
 boosted-requires : tie.Need-boosted-requires Inv-loop μ-loop
 boosted-requires c κs =
-    let inv = c .before .before .before .before .loop .inv in
-    let a = start·boosted-requires c .args in
-    let p = start·boosted-requires c .pre .0 in
+    let inv = at-loop c .loop .inv in
+    let a = start c .args in
+    let p = start c .pre .0 in
     let n = inv .0 .same in
-    let below : c .before .before .before .before .loop .i < length (now (a .scores)) = omega (arith, c .before .before .before .loop-test .taken) in (
+    let below : at-loop c .loop .i < length (now (a .scores)) = omega (arith, c .before .before .before .before .loop-test .taken) in (
       record {
         inside = omega (arith, p .detections-fit);
         trks-fit = p .trks-fit;
         confs-fit = p .confs-fit;
-        row-inside = omega (arith, row-ends (length (now (a .scores))) (length (now (a .since))) (c .before .before .before .before .loop .i) below, p .room);
+        row-inside = omega (arith, row-ends (length (now (a .scores))) (length (now (a .since))) (at-loop c .loop .i) below, p .room);
         few = p .few;
       },
       inv .1,
@@ -55,11 +56,14 @@ boosted-requires c κs =
 
 loop-again : tie.Need-loop-again Inv-loop μ-loop
 loop-again c =
-    let inv = in-loop c .before .loop .inv in
-    let n = inv .0 .same in
-    let boosted = c .before .before .before .before .boosted in
-    let below : in-loop c .before .loop .i < length (now (start c .args .scores)) = omega (arith, in-loop c .loop-test .taken) in
-    (fill-on _ _ _ (inv .0) below (le-refl _) (boosted .ensures ∙ rw (fill-ahead _ _ _ (inv .0) nan)), (boosted .kept .1 .1 .1 .1 .1 .1 .1 .1 .0 ∙ inv .1 .0, boosted .kept .1 .1 .1 .1 .1 .1 .1 .1 .1 .0 ∙ inv .1 .1))
+    let scored = c .before .before .before .before in
+    let labelled = scored .before .before .before .before in
+    let at = labelled .before .before .loop in
+    let n = at .inv .0 .same in
+    let below : at .i < length (now (start·loop-again c .args .scores)) = omega (arith, labelled .before .loop-test .taken) in (
+      fill-on _ _ _ (at .inv .0) below (le-refl _) (scored .boosted .ensures ∙ rw (fill-ahead _ _ _ (at .inv .0) nan, labelled .label-at .ensures)),
+      (scored .boosted .kept .1 .1 .1 .1 .1 .1 .1 .1 .1 .1 .0 ∙ at .inv .1 .0, scored .boosted .kept .1 .1 .1 .1 .1 .1 .1 .1 .1 .1 .1 .0 ∙ at .inv .1 .1),
+    )
 
 returns : tie.Need-returns Inv-loop μ-loop
 returns c = fill-whole _ _ _ (c .before .loop .inv .0) (rw (c .before .loop .inv .0 .same) at (c .loop-test .left)) refl
@@ -68,6 +72,7 @@ pub boost-rows-with-spec : {M : Type 1} → statement M
 boost-rows-with-spec =
     tie.close
     (tie.spec Inv-loop μ-loop (λ c. (fill-start _ _ _, start·loop-holds c .pre .1))
+    (λ c κs. tt)
     (λ c. omega arith)
     (λ c. omega arith)
     boosted-requires

@@ -9,10 +9,10 @@ use Rattle.boost_tracker_dlo.proofs.dlo.dlo_confidence_boost.Tie as tie
 
 -- The places that the answers go back to.
 abbrev start·returns : tie.After-enum-told2 → tie.Start
-start·returns c = c .before .before .before .before .before .before .before .before .before
+start·returns c = c .before .before .before .before .before .before .before .before .before .before .before
 
 abbrev start·distance-similarity-requires : tie.After-distance-similarity-arg → tie.Start
-start·distance-similarity-requires c = c .before .before .before .before .before .before .before .before .before .before
+start·distance-similarity-requires c = c .before .before .before .before .before .before .before .before .before .before .before .before
 
 abbrev after-enum-told·returns-2 : tie.Then1 → tie.After-enum-told
 after-enum-told·returns-2 c = c .before .before .before .before .before
@@ -50,7 +50,7 @@ returns-2 c =
     let w = start·returns-2 c .args in
     let told = after-enum-told·returns-2 c .enum-told .given .1 in
     let left = c .before .before .before .distance-similarity .ensures in
-    let none = boost-none (w .q) (now (w .detections)) (now (w .trks)) (now (w .confs)) _ _ (w .boxes) (w .tracks) (now (w .scores)) (c .if1 .taken) in
+    let none = boost-none _ (w .q) (now (w .detections)) (now (w .trks)) (now (w .confs)) _ _ (w .boxes) (w .tracks) (now (w .scores)) (c .if1 .taken) in
     (after-enum-told·returns-2 c .before .before .of-dlo .ensures, (mhd-accepted (w .q) (now (w .distance)) (w .boxes) (w .tracks) told left, rw told none))
 
 boost-rows-requires : tie.Need-boost-rows-requires
@@ -66,7 +66,8 @@ returns-3 c =
     let told = after-enum-told c .enum-told .given .1 in
     let p = dlo-ready (w .boxes) (w .tracks) _ _ _ _ _ _ (sym (after-enum-told c .before .before .of-dlo .ensures) ∙ told) in
     let left = else1 c .before .before .before .distance-similarity .ensures in
-    let rows = c .before .before .boost-rows .ensures ∙ boost-is (w .q) (now (w .detections)) (now (w .trks)) (now (w .confs)) (now (w .distance)) _ (now (w .since)) (w .boxes) (w .tracks) (now (w .scores)) (p .scores-fit) (p .since-fits) left (else1 c .if1 .left) in
+    let rows = c .before .before .boost-rows .ensures ∙ boost-is (w .q) (now (w .detections)) (now (w .trks)) (now (w .confs)) (now (w .distance)) _ (now (w .since)) (now (w .box-labels)) (now (w .track-labels))
+    (w .boxes) (w .tracks) (now (w .scores)) (p .scores-fit) (p .since-fits) left (else1 c .if1 .left) in
     (after-enum-told c .before .before .of-dlo .ensures, (mhd-accepted (w .q) (now (w .distance)) (w .boxes) (w .tracks) told left, rw told rows))
 
 pub dlo-confidence-boost-spec : {M : Type 1} → statement M

@@ -1,4 +1,4 @@
--- `corrections::follow` meets its contract: where counts, places and ids fit and every index is of a box, the matched tracks are corrected, then tracks are started behind them. Assumes nothing.
+-- `corrections::follow` meets its contract: where counts, places and ids fit and every index is of a box, the matched tracks are corrected, then tracks are started behind them with their boxes' labels. Assumes nothing.
 use denote.Ref.{now}
 use mathlib.Core.Path.{_∙_, sym}
 use mathlib.Core.List.{List}
@@ -7,7 +7,7 @@ use native.Mathlib.Omega.{arith}
 use lib.ListN.{length, take}
 use lib.Seq.{length-take-le}
 use borrow.Author.Needs.{needs}
-use Rattle.boost_tracker_table.specs.Table.{capacity}
+use Rattle.boost_tracker_table.specs.Table.{placesIn}
 use Rattle.boost_tracker_follow.specs.Corrections.{Listed}
 use Rattle.boost_tracker_follow.proofs.FitLaws.{FollowRoom, inside-listed}
 use Rattle.boost_tracker_follow.proofs.FollowLaws.{not-fitting, room-of, follows, not-listed, both-inside, listed}
@@ -16,10 +16,10 @@ use Rattle.boost_tracker_follow.proofs.corrections.follow.Tie as tie
 
 -- The places that the answers go back to.
 abbrev start·returns : tie.Then1 → tie.Start
-start·returns c = c .before .before .before .before .before .before .before .before .before
+start·returns c = c .before .before .before .before .before .before .before .before .before .before .before
 
 abbrev start : tie.Else1 → tie.Start
-start c = c .before .before .before .before .before .before .before .before .before
+start c = c .before .before .before .before .before .before .before .before .before .before .before
 
 abbrev else1·returns-2 : tie.Then2 → tie.Else1
 else1·returns-2 c = c .before .before .before .before .before
@@ -29,6 +29,9 @@ else1 c = c .before .before .before .before .before
 
 abbrev else2 : tie.After-correct-matched → tie.Else2
 else2 c = c .before .before .before .before .before
+
+abbrev behind : tie.After-start-unmatched → tie.After-correct-matched
+behind c = c .before .before .before .before .before .before .before .before
 
 -- the fronts of the lists, as long as the counts say
 abbrev pair-boxes : tie.Else1 → List ℕ
@@ -43,25 +46,25 @@ unmatched e = take (start e .args .counts .detections) (now (start e .args .unma
 returns : tie.Need-returns
 returns c =
     let a = start·returns c .args in
-    not-fitting (a .held) (a .last) (now (a .corners)) (a .counts) (now (a .pair-boxes)) (now (a .pair-tracks)) (now (a .unmatched)) (now (a .floats)) (now (a .counters))
-    (c .before .before .capacity .ensures) (c .before .fits2 .ensures) (c .if1 .taken)
+    not-fitting (a .held) (a .last) (now (a .corners)) (now (a .box-labels)) (a .counts) (now (a .pair-boxes)) (now (a .pair-tracks)) (now (a .unmatched)) (now (a .floats)) (now (a .counters)) (now (a .labels))
+    (c .before .before .places-in .ensures) (c .before .fits2 .ensures) (c .if1 .taken)
 
 -- the first test has told that counts, places and ids fit
 fit : (e : tie.Else1)
-    → FollowRoom (start e .args .held) (capacity (length (now (start e .args .floats))) (length (now (start e .args .counters)))) (start e .args .last) (start e .args .counts)
+    → FollowRoom (start e .args .held) (placesIn (length (now (start e .args .floats))) (length (now (start e .args .counters))) (length (now (start e .args .labels)))) (start e .args .last) (start e .args .counts)
     (length (now (start e .args .pair-boxes))) (length (now (start e .args .pair-tracks))) (length (now (start e .args .unmatched)))
 fit e =
     let a = start e .args in
-    room-of (a .held) (a .last) (now (a .corners)) (a .counts) (now (a .pair-boxes)) (now (a .pair-tracks)) (now (a .unmatched)) (now (a .floats)) (now (a .counters))
-    (e .before .before .capacity .ensures) (e .before .fits2 .ensures) (e .if1 .left)
+    room-of (a .held) (a .last) (now (a .corners)) (now (a .box-labels)) (a .counts) (now (a .pair-boxes)) (now (a .pair-tracks)) (now (a .unmatched)) (now (a .floats)) (now (a .counters)) (now (a .labels))
+    (e .before .before .places-in .ensures) (e .before .fits2 .ensures) (e .if1 .left)
 
 returns-2 : tie.Need-returns-2
 returns-2 c =
     let e = else1·returns-2 c in
     let a = start e .args in
-    follows (a .held) (a .last) (now (a .corners)) (a .counts) (now (a .pair-boxes)) (now (a .pair-tracks)) (now (a .unmatched)) (now (a .floats)) (now (a .counters))
-    (e .before .before .capacity .ensures) (e .before .fits2 .ensures) (e .if1 .left)
-    (not-listed (a .held) (a .last) (now (a .corners)) (a .counts) (pair-boxes e) (pair-tracks e) (unmatched e) (now (a .floats)) (now (a .counters))
+    follows (a .held) (a .last) (now (a .corners)) (now (a .box-labels)) (a .counts) (now (a .pair-boxes)) (now (a .pair-tracks)) (now (a .unmatched)) (now (a .floats)) (now (a .counters)) (now (a .labels))
+    (e .before .before .places-in .ensures) (e .before .fits2 .ensures) (e .if1 .left)
+    (not-listed (a .held) (a .last) (now (a .corners)) (now (a .box-labels)) (a .counts) (pair-boxes e) (pair-tracks e) (unmatched e) (now (a .floats)) (now (a .counters)) (now (a .labels))
     (c .before .before .before .all-inside .ensures) (c .before .all-inside2 .ensures) (c .if2 .taken))
 
 -- the second has told that every index is of a box
@@ -69,7 +72,7 @@ all-listed : (c : tie.Else2) → Listed (pair-boxes (else1 c)) (length (now (sta
 all-listed c =
     let e = else1 c in
     let a = start e .args in
-    let known = both-inside (a .held) (a .last) (now (a .corners)) (a .counts) (pair-boxes e) (pair-tracks e) (unmatched e) (now (a .floats)) (now (a .counters))
+    let known = both-inside (a .held) (a .last) (now (a .corners)) (now (a .box-labels)) (a .counts) (pair-boxes e) (pair-tracks e) (unmatched e) (now (a .floats)) (now (a .counters)) (now (a .labels))
     (c .before .before .before .all-inside .ensures) (c .before .all-inside2 .ensures) (c .if2 .left) in
     (inside-listed (pair-boxes e) (length (now (a .corners))) (known .0), inside-listed (unmatched e) (length (now (a .corners))) (known .1))
 
@@ -84,20 +87,26 @@ start-unmatched-requires c κs =
     let hit = c .before .before .before .before .before .before .before in
     let w = fit (else1 (else2 hit)) in
     let kept = hit .correct-matched .kept in
-    (rw (kept .0, kept .1 .0, length-take-le _ _ (w .started-in)) (w .room, w .ids-fit), all-listed (else2 hit) .1)
+    (rw (kept .0, kept .1 .0, length-take-le _ _ (w .started-in)) (omega (arith, w .room), w .ids-fit), all-listed (else2 hit) .1)
+
+start-labels-requires : tie.Need-start-labels-requires
+start-labels-requires c κs =
+    let w = fit (else1 (else2 (behind (c .before .before .before .before .before .before)))) in
+    rw (length-take-le _ _ (w .started-in)) (omega (arith, w .room))
 
 returns-3 : tie.Need-returns-3
 returns-3 c =
-    let begun = c .before .before .before .before in
-    let hit = begun .before .before .before .before .before .before .before .before in
+    let named = c .before .before in
+    let begun = named .before .before .before .before .before .before .before in
+    let hit = behind begun in
     let told = else2 hit in
     let e = else1 told in
     let a = start e .args in
-    follows (a .held) (a .last) (now (a .corners)) (a .counts) (now (a .pair-boxes)) (now (a .pair-tracks)) (now (a .unmatched)) (now (a .floats)) (now (a .counters))
-    (e .before .before .capacity .ensures) (e .before .fits2 .ensures) (e .if1 .left)
-    (listed (a .held) (a .last) (now (a .corners)) (a .counts) (pair-boxes e) (pair-tracks e) (unmatched e) (now (a .floats)) (now (a .counters))
+    follows (a .held) (a .last) (now (a .corners)) (now (a .box-labels)) (a .counts) (now (a .pair-boxes)) (now (a .pair-tracks)) (now (a .unmatched)) (now (a .floats)) (now (a .counters)) (now (a .labels))
+    (e .before .before .places-in .ensures) (e .before .fits2 .ensures) (e .if1 .left)
+    (listed (a .held) (a .last) (now (a .corners)) (now (a .box-labels)) (a .counts) (pair-boxes e) (pair-tracks e) (unmatched e) (now (a .floats)) (now (a .counters)) (now (a .labels))
     (told .before .before .before .all-inside .ensures) (told .before .all-inside2 .ensures) (told .if2 .left)
-    (omega (arith, fit e .room)) (hit .correct-matched .ensures) (begun .start-unmatched .ensures))
+    (omega (arith, fit e .room)) (hit .correct-matched .ensures) (begun .start-unmatched .ensures) (named .start-labels .ensures))
 
 pub follow-spec : {M : Type 1} → statement M
 follow-spec =
@@ -116,6 +125,9 @@ follow-spec =
     correct-matched-requires
     (λ c. sym (length-take-le _ _ (fit (else1 (else2 (c .before .before .before .before .before .before .before))) .started-in)))
     start-unmatched-requires
+    (λ c. sym (length-take-le _ _ (fit (else1 (else2 (behind (c .before .before .before .before .before .before)))) .started-in)))
+    start-labels-requires
+    (λ c. search needs)
     (λ c. search needs)
     (λ c. search needs)
     returns-3)

@@ -7,7 +7,7 @@ use Rattle.boost_tracker_steps.proofs.boost.dlo.Tie as tie
 
 -- The places that the answers go back to.
 abbrev start : tie.After-times → tie.Start
-start c = c .before .before .before .before .before .before .before .before
+start c = c .before .before .before .before .before .before .before .before .before .before
 
 dlo-with-requires : tie.Need-dlo-with-requires
 dlo-with-requires c κs = let p = start (c .before .before) .pre in (p .0, (p .1, length-take-le _ _ (p .0 .distant .few-tracks)))

@@ -25,13 +25,6 @@ returns c =
     let fitted = record-fitted trackBytes (a .w) _ (now (a .out)) _ _ (wrote .write-track .ensures) (start .pre) in
     absurd (not-short (fitted .0) (c .enum-told2 .given .1))
 
--- w is below the records that out has room for
-add-result : tie.Need-add-result
-add-result c =
-    let wrote = c .before .before .before .before in
-    let start = wrote .before .before .before .before .before .before .before in
-    search (needs, start .pre, start .good)
-
 returns-2 : tie.Need-returns-2
 returns-2 c =
     let wrote = c .before .before .before .before in
@@ -57,7 +50,7 @@ emit-one-spec =
     (λ c. search needs)
     (λ c. search needs)
     returns
-    add-result
+    (λ c. let start = c .before .before .before .before .before .before .before .before .before .before .before in search (needs, start .pre, start .good))
     (λ c. search needs)
     returns-2
     returns-3)

@@ -1,6 +1,6 @@
 -- `record::written` meets its contract: both tests hold where the confidence is replaced, and one fails elsewhere. Assumes nothing.
 use mathlib.Core.Path.{_≡_, refl}
-use mathlib.Core.Bool.{Bool, true, false, cond, _&&_}
+use mathlib.Core.Bool.{Bool, true, false, _&&_}
 use lib.Ieee.{lt}
 use Rattle.laws.specs.Tests.{and-left, and-right}
 use Rattle.floats.specs.Single.{one}
@@ -10,7 +10,7 @@ use Rattle.boost_tracker_table.specs.Record.{written}
 use Rattle.boost_tracker_table.proofs.record.written.Statement.{statement}
 use Rattle.boost_tracker_table.proofs.record.written.Tie as tie
 
-replaced : (r : TrackRecord) (cap : Bool) → (cap && lt one (r .confidence)) ≡ true → trackWith (r .frame) (r .id) (r .left) (r .top) (r .width) (r .height) one ≡ written cap r
+replaced : (r : TrackRecord) (cap : Bool) → (cap && lt one (r .confidence)) ≡ true → trackWith (r .frame) (r .id) (r .left) (r .top) (r .width) (r .height) one (r .label) ≡ written cap r
 replaced r cap e = rw (and-left cap _ e, and-right cap (lt one (r .confidence)) e)
 
 left : (r : TrackRecord) (cap : Bool) → (cap && lt one (r .confidence)) ≡ false → r ≡ written cap r

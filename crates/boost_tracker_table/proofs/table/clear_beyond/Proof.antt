@@ -1,5 +1,5 @@
 -- `table::clear_beyond` meets its contract. The loop's invariant: the places from the one behind the held tracks up to i are blank, and the rest is as it was. The measure is what is left of the places. Assumes nothing.
-use Prim.Native.Nat.{_-_}
+use Prim.Native.Nat.{_-_, min}
 use native.Mathlib.Omega.{arith}
 use Rattle.boost_tracker_table.specs.Table.{tracks}
 use Rattle.boost_tracker_table.proofs.Walks.{Clearing, clear-start, clear-on, clear-end}
@@ -7,10 +7,10 @@ use Rattle.boost_tracker_table.proofs.table.clear_beyond.Statement.{sta
 use Rattle.boost_tracker_table.proofs.table.clear_beyond.Tie as tie
 
 abbrev Inv-loop : tie.InvT-loop
-Inv-loop floats₀ counters₀ held places i₀ floats counters i = Clearing floats₀ counters₀ (tracks floats₀ counters₀ held) places floats counters i
+Inv-loop floats₀ counters₀ held places end i₀ floats counters i = Clearing floats₀ counters₀ (tracks floats₀ counters₀ (min held places)) end floats counters i
 
 abbrev μ-loop : tie.MeasureT-loop
-μ-loop floats₀ counters₀ held places i₀ floats counters i = places - i
+μ-loop floats₀ counters₀ held places end i₀ floats counters i = end - i
 
 put-track-requires : tie.Need-put-track-requires Inv-loop μ-loop
 put-track-requires c κs =
@@ -29,7 +29,7 @@ clear-beyond-spec =
     (tie.spec Inv-loop μ-loop
     (λ c κs. tt)
     (λ c κs. tt)
-    (λ c. clear-start _ _ _ (c .before .capacity .ensures) (c .smaller .ensures))
+    (λ c. clear-start _ _ _ _ (c .before .placed .ensures) (c .smaller .ensures))
     (λ c κs. tt)
     put-track-requires
     (λ c. omega (arith, c .before .before .before .before .before .before .before .before .loop-test .taken, c .before .before .before .before .before .before .before .before .before .loop .inv .room .few))
@@ -37,4 +37,4 @@ clear-beyond-spec =
     loop-again
     (λ c. c .before .loop .inv .same-f)
     (λ c. c .before .loop .inv .same-c)
-    (λ c. clear-end (c .before .loop .inv) (c .loop-test .left) (c .before .before .before .capacity .ensures)))
+    (λ c. clear-end (c .before .loop .inv) (c .loop-test .left) (c .before .before .before .placed .ensures)))

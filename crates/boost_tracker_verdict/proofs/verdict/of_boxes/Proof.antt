@@ -19,7 +19,17 @@ returns-3 c = rw (le-ltb _ _ (c .before .before .before .if1 .left), le-ltb _ _ 
 
 returns-4 : tie.Need-returns-4
 unfolding ofBoxes
-returns-4 c = rw (le-ltb _ _ (c .before .before .before .if1 .left), le-ltb _ _ (c .before .before .if2 .left), ← c .before .first-bad-box .ensures, le-ltb _ _ (c .if3 .left))
+returns-4 c =
+    let good = c .before .before in
+    rw (le-ltb _ _ (good .before .before .before .if1 .left), le-ltb _ _ (good .before .before .if2 .left), ← good .before .first-bad-box .ensures, le-ltb _ _ (good .if3 .left))
+    (rw (← c .before .first-unlabelled .ensures, lt-ltb _ _ (c .if4 .taken)))
+
+returns-5 : tie.Need-returns-5
+unfolding ofBoxes
+returns-5 c =
+    let good = c .before .before in
+    rw (le-ltb _ _ (good .before .before .before .if1 .left), le-ltb _ _ (good .before .before .if2 .left), ← good .before .first-bad-box .ensures, le-ltb _ _ (good .if3 .left))
+    (rw (← c .before .first-unlabelled .ensures, le-ltb _ _ (c .if4 .left)))
 
 pub of-boxes-spec : {M : Type 1} → statement M
-of-boxes-spec = tie.close (tie.spec returns (λ c. search needs) returns-2 (λ c κs. search needs) returns-3 returns-4)
+of-boxes-spec = tie.close (tie.spec returns (λ c. search needs) returns-2 (λ c κs. search needs) returns-3 (λ c κs. search needs) returns-4 returns-5)

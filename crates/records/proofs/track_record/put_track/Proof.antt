@@ -1,7 +1,7 @@
--- `records::track_record::put_track` meets its contract: three writes, each behind the one before it. Assumes nothing.
+-- `records::track_record::put_track` meets its contract: four writes, each behind the one before it. Assumes nothing.
 use borrow.Author.Needs.{needs}
 use native.Mathlib.Omega.{arith}
-use Rattle.records.proofs.Laws.Lengths.{length-le}
+use Rattle.records.proofs.Laws.Lengths.{length-le, length-five}
 use Rattle.records.proofs.Puts.{put-next, put-put, put-length}
 use Rattle.records.proofs.track_record.put_track.Statement.{statement}
 use Rattle.records.proofs.track_record.put_track.Tie as tie
@@ -15,12 +15,22 @@ put-five-requires c κs =
     let frame = id .before .before .before .before in
     omega (arith, frame .before .before .before .pre, put-next (frame .put-u32 .ensures) 4 (length-le 4 _), put-next (id .put-u64 .ensures) 8 (length-le 8 _))
 
-returns : tie.Need-returns
-returns c =
-    let floats = c .before .before in
+put-u8-requires : tie.Need-put-u8-requires
+put-u8-requires c κs =
+    let floats = c .before .before .before in
     let id = floats .before .before .before .before in
     let frame = id .before .before .before .before in
-    put-put (frame .put-u32 .ensures) (put-put (id .put-u64 .ensures) (floats .put-five .ensures))
+    let end₁ = put-next (frame .put-u32 .ensures) 4 (length-le 4 _) in
+    let end₂ = put-next (id .put-u64 .ensures) 8 (length-le 8 _) in
+    omega (arith, frame .before .before .before .pre, end₁, end₂, put-next (floats .put-five .ensures) 20 (length-five _ _ _ _ _))
+
+returns : tie.Need-returns
+returns c =
+    let label = c .before .before in
+    let floats = label .before .before .before .before in
+    let id = floats .before .before .before .before in
+    let frame = id .before .before .before .before in
+    put-put (frame .put-u32 .ensures) (put-put (id .put-u64 .ensures) (put-put (floats .put-five .ensures) (label .put-u8 .ensures)))
 
 pub put-track-spec : {M : Type 1} → statement M
-put-track-spec = tie.close (tie.spec (λ c κs. search needs) put-u64-requires put-five-requires (λ c. put-length (returns c)) returns)
+put-track-spec = tie.close (tie.spec (λ c κs. search needs) put-u64-requires put-five-requires put-u8-requires (λ c. put-length (returns c)) returns)

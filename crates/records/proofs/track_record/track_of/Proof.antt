@@ -6,18 +6,24 @@ use Rattle.records.proofs.track_record.track_of.Tie as tie
 
 returns : tie.Need-returns
 returns c =
-    let height = c .before .before in
+    let confidence = c .before .before in
+    let height = confidence .before .before in
     let width = height .before .before in
     let top = width .before .before in
     let left = top .before .before in
     let id = left .before .before in
     let frame = id .before .before in
-    track-fields (frame .u32-of .ensures) (id .u64-of .ensures) (left .f32-of .ensures) (top .f32-of2 .ensures) (width .f32-of3 .ensures) (height .f32-of4 .ensures) (c .f32-of5 .ensures)
+    track-fields (frame .u32-of .ensures) (id .u64-of .ensures) (left .f32-of .ensures) (top .f32-of2 .ensures) (width .f32-of3 .ensures) (height .f32-of4 .ensures) (confidence .f32-of5 .ensures)
+    (c .u8-of .ensures)
 
 pub track-of-spec : {M : Type 1} → statement M
 track-of-spec =
     tie.close
     (tie.spec
+    (λ c. search needs)
+    (λ c. search needs)
+    (λ c. search needs)
+    (λ c κs. search needs)
     (λ c. search needs)
     (λ c. search needs)
     (λ c. search needs)

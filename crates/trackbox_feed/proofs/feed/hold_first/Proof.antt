@@ -3,9 +3,13 @@ use borrow.Author.Needs.{needs}
 use Rattle.trackbox_feed.proofs.feed.hold_first.Statement.{statement}
 use Rattle.trackbox_feed.proofs.feed.hold_first.Tie as tie
 
+returns : tie.Need-returns
+returns c = rw (c .enum-told2 .given .1)
+
 returns-2 : tie.Need-returns-2
 returns-2 c =
-    rw (c .before .before .before .before .enum-told .given .1) (c .before .before .hold .ensures)
+    let stored = c .before .before .before .before in
+    rw (stored .before .before .before .enum-told .given .1) (stored .store .ensures)
 
 pub hold-first-spec : {M : Type 1} → statement M
 hold-first-spec =
@@ -13,7 +17,8 @@ hold-first-spec =
     (tie.spec
     (λ c. search needs)
     (λ c. search needs)
-    (λ c. search needs)
+    returns
     (λ c κs. search needs)
+    (λ c. search needs)
     (λ c. search needs)
     returns-2)

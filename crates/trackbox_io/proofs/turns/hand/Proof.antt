@@ -1,33 +1,40 @@
 -- `turns::hand` meets its contract: the call is the definition's, with as much of the work slices as the frame needs and the text behind what waits. Assumes nothing.
-use mathlib.Core.Path.{sym}
+use mathlib.Core.Path.{refl, sym}
 use native.Mathlib.Omega.{arith}
 use lib.Seq.{length-take-le}
 use borrow.Author.Needs.{needs}
 use denote.Ref.{now}
 use Prim.Native.Nat.{_*_, _≤_}
 use lib.ListN.{length}
+use Rattle.trackbox_io.specs.Turn.{Arrays, arrays}
 use Rattle.trackbox_io.proofs.TurnLaws.{not-handed, handed}
 use Rattle.trackbox_io.proofs.turns.hand.Statement.{statement}
 use Rattle.trackbox_io.proofs.turns.hand.Tie as tie
 
 -- The places that the answers go back to: the start; what `take` is called with; the call, from where what it was lent has come back.
+abbrev after-slice-known5 : tie.After-struct-known → tie.After-slice-known5
+after-slice-known5 c = c .before .before .before .before .before
+
 abbrev start : tie.After-struct-known → tie.Start
-start c = c .before .before .before .before .before .before .before .before .before
+start c = after-slice-known5 c .before .before .before .before .before .before
 
 abbrev start·needed : tie.After-needed → tie.Start
 start·needed c = start (c .before .before)
 
-abbrev after-item : tie.After-take-arg4 → tie.After-item
-after-item c = c .before .before .before .before
+abbrev after-item : tie.After-take-arg6 → tie.After-item
+after-item c = c .before .before .before .before .before .before
 
-abbrev after-needed : tie.After-take-arg4 → tie.After-needed
+abbrev after-needed : tie.After-take-arg6 → tie.After-needed
 after-needed c = after-item c .before .before
 
-abbrev after-out : tie.After-slice-known14 → tie.After-out
+abbrev after-out : tie.After-slice-known18 → tie.After-out
 after-out c = c .before .before .before .before .before .before .before
 
+abbrev after-boxes : tie.After-out → tie.After-boxes
+after-boxes c = c .before .before .before .before
+
 abbrev after-take : tie.After-out → tie.After-take
-after-take c = c .before .before .before .before .before .before .before
+after-take c = after-boxes c .before .before .before .before .before .before .before
 
 -- as much is lent as there is
 doubles-fit : (c : tie.After-needed) → c .needed .result ≤ length (now (start·needed c .args .work64))
@@ -66,17 +73,23 @@ part-take-start c = omega (arith, used-fits (start·needed (after-needed (c .bef
 answered-requires : tie.Need-answered-requires
 answered-requires c κs = used-fits (start·needed (after-needed (after-take (after-out c) .before .before .before .before)))
 
+-- the arrays as they are lent
+abbrev given : tie.Start → Arrays
+given c =
+    let a = c .args in
+    arrays (now (a .input)) (now (a .text)) (now (a .floats)) (now (a .counters)) (now (a .labels)) (now (a .boxes)) (now (a .box-labels)) (now (a .out)) (now (a .work64)) (now (a .work32))
+
 returns-2 : tie.Need-returns-2
 returns-2 c =
     let take = after-take (after-out (c .before)) in
     let item = after-item (take .before .before .before .before) in
     let needed = item .before .before in
-    let a = start·needed needed .args in
+    let from = start·needed needed in
     let last = take .take .last .1 .1 in
-    handed (a .p) (now (a .input)) (now (a .text)) (now (a .floats)) (now (a .counters)) (now (a .boxes)) (now (a .out)) (now (a .work64)) (now (a .work32))
-    (last .1 .1 .1 .1 .1 .1 .0) (last .0) (last .1 .0) (last .1 .1 .0) (last .1 .1 .1 .0) (last .1 .1 .1 .1 .0) (last .1 .1 .1 .1 .1 .0) _ _
-    (needed .needed .result) (item .item .result) (take .take .result)
-    (needed .before .if1 .left) (needed .needed .ensures) (item .item .ensures) (take .take .ensures) (c .answered .ensures)
+    handed (from .args .p) (given from)
+    (arrays (now (from .args .input)) _ (last .0) (last .1 .0) (last .1 .1 .0) (last .1 .1 .1 .0) (last .1 .1 .1 .1 .0) (last .1 .1 .1 .1 .1 .0) _ _)
+    (last .1 .1 .1 .1 .1 .1 .1 .1 .0) (last .1 .1 .1 .1 .1 .1 .0) (last .1 .1 .1 .1 .1 .1 .1 .0) (needed .needed .result) (item .item .result) (take .take .result)
+    (needed .before .if1 .left) (needed .needed .ensures) (item .item .ensures) (take .take .ensures) refl (c .answered .ensures)
 
 pub hand-spec : {M : Type 1} → statement M
 hand-spec =
@@ -95,6 +108,8 @@ hand-spec =
     (λ c. search needs)
     (λ c κs. tt)
     answered-requires
+    (λ c. search needs)
+    (λ c. search needs)
     (λ c. search needs)
     (λ c. search needs)
     (λ c. search needs)

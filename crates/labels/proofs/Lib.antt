@@ -1,0 +1,2 @@
+-- RowLaws has what the proofs of several functions cite.
+pub mod RowLaws
