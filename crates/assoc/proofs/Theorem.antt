@@ -1,26 +1,31 @@
--- What holds of an accepted call of associate or associate_within, of the definitions alone. Assumes nothing.
-use mathlib.Core.Path.{_≡_, refl}
+-- What holds of an accepted call of associate or associate_within, of the definitions alone, and what specs/Account.antt states of the lists that a caller gets. Assumes nothing.
+use mathlib.Core.Path.{_≡_, refl, sym, ap, _∙_}
 use mathlib.Core.Bool.{Bool, true}
 use mathlib.Core.List.{List, []}
-use Prim.Native.Nat.{ℕ, _+_, _*_, _≤_}
+use Prim.Native.Nat.{ℕ, _+_, _*_, _≤_, _<_}
 use lib.Ieee.{Float, nan, le}
-use lib.ListN.{length, getD, take}
+use lib.ListN.{length, length-map, getD, take, List·getD-map}
+use borrow.Author.Tests.{eqb-true}
 use Rattle.laws.specs.Tests.{and-left, and-right}
-use Rattle.laws.specs.Grid.{grid}
-use Rattle.labels.specs.Label.{sameLabel, alike}
-use Rattle.floats.specs.Single.{one}
+use Rattle.laws.specs.Over.{over-front}
+use Rattle.laws.specs.Grid.{grid, grid-at}
+use Rattle.labels.specs.Label.{labelAt, sameLabel, alike, whereAlike}
+use Rattle.floats.specs.Single.{one, plusZero}
 use Rattle.assoc.specs.declared.cost.AssociateParams.{AssociateParams}
 use Rattle.refusals.specs.declared.refusal.Verdict.the-variants.{Accepted}
-use Rattle.assoc_similarity.specs.Overlap.{boxAt, overlap}
+use Rattle.assoc_similarity.specs.Overlap.{boxAt, overlap, iouBatch}
 use Rattle.assoc_similarity.specs.Mahalanobis.{mhDistSimilarity}
 use Rattle.refusals.proofs.Laws.{accepted-of}
-use Rattle.assoc_matching.specs.Matching.{Pair}
-use Rattle.assoc_assignment.specs.Assignment.{validMatch}
+use Rattle.assoc_matching.specs.Matching.{Pair, pair, boxesOf, tracksOf}
+use Rattle.assoc_matching.specs.Answers.{Call, callBy}
+use Rattle.assoc_assignment.specs.declared.assignment.AssignmentCounts.{AssignmentCounts}
+use Rattle.assoc_assignment.specs.Assignment.{Assignment, validMatch}
 use Rattle.assoc_assignment.specs.Account.{Accounted}
-use Rattle.assoc_assignment.specs.Answers.{roomOf}
+use Rattle.assoc_assignment.specs.Answers.{roomOf, assignmentCounts, noCounts, assignmentValues, callWith}
 use Rattle.assoc_assignment.proofs.AccountLaws.{accounted}
 use Rattle.assoc.specs.Association.{ious, labelRule, costs, stands, associateBy, associate}
-use Rattle.assoc.specs.Answers.{Lent, withinVerdict, associateVerdict, associateCall, withinCall}
+use Rattle.assoc.specs.Answers.{Lent, lentAfter, withinVerdict, associateVerdict, associateCall, withinCall}
+use Rattle.assoc.specs.Account.{Account, written, AccountedFor, listsOf, AccountedByDefinition}
 use Rattle.assoc.proofs.AssociationLaws.{as-assigned, associate-ready, within-ready}
 
 -- for at most 255 boxes and 255 tracks, and floats of any bit patterns, by any rule for two labels: no pair joins two that are not alike, and every pair's IoU is at least the threshold
@@ -76,3 +81,88 @@ module _ (params : AssociateParams) (boxes tracks : ℕ) (detections corners tra
   within-account e =
       let fits = within-ready _ _ _ _ _ _ _ _ _ _ (within-passes e) .cornered in
       account sameLabel params boxes tracks detections corners (take (boxes * tracks) (l .work32)) trackConfidence detectionConfidence boxLabels trackLabels (fits .few-rows) (fits .few-cols)
+
+-- ---- the lists that a caller gets
+
+-- an assignment by the rule of document 02 is accounted for in the caller's words
+module _ (boxes tracks : ℕ) (detections corners : List Float) (boxLabels trackLabels : List ℕ) (threshold : Float) (a : Assignment) where
+  abbrev like : ℕ → ℕ → Bool
+  like = alike sameLabel boxLabels trackLabels
+
+  abbrev ok : Pair → Bool
+  ok = stands like (ious like boxes tracks detections corners) tracks threshold
+
+  abbrev at : ℕ → Pair
+  at k = getD (a .matches) k (pair 0 0)
+
+  box-is : (k : ℕ) → getD (boxesOf (a .matches)) k 0 ≡ at k .box
+  box-is k = List·getD-map (λ (p : Pair). p .box) (a .matches) k (pair 0 0)
+
+  track-is : (k : ℕ) → getD (tracksOf (a .matches)) k 0 ≡ at k .track
+  track-is k = List·getD-map (λ (p : Pair). p .track) (a .matches) k (pair 0 0)
+
+  module _ (acc : Accounted ok boxes tracks a) (k : ℕ) (h : k < length (boxesOf (a .matches))) where
+    within : k < length (a .matches)
+    within = rw (length-map (a .matches) (λ (p : Pair). p .box)) at h
+
+    is-like : like (at k .box) (at k .track) ≡ true
+    is-like = stands-alike like (ious like boxes tracks detections corners) tracks threshold (at k) (acc .stands k within)
+
+    box-low : at k .box < boxes
+    box-low = rw (box-is k) at (acc .boxes-once .below k h)
+
+    track-low : at k .track < tracks
+    track-low = let low = acc .tracks-once .below k (rw (length-map (a .matches) (λ (p : Pair). p .track)) within) in rw (track-is k) at low
+
+    -- where alike, the cell is the IoU
+    cell-is : getD (ious like boxes tracks detections corners) (at k .box * tracks + at k .track) nan ≡ iouBatch detections corners (at k .box) (at k .track)
+    cell-is = grid-at (whereAlike like (iouBatch detections corners) plusZero) boxes tracks _ nan (at k .box) (at k .track) box-low track-low ∙ rw is-like
+
+    is-above : le threshold (iouBatch detections corners (at k .box) (at k .track)) ≡ true
+    is-above = rw cell-is at (stands-above like (ious like boxes tracks detections corners) tracks threshold (at k) (acc .stands k within))
+
+    labels-same : labelAt boxLabels (at k .box) ≡ labelAt trackLabels (at k .track)
+    unfolding sameLabel
+    labels-same = eqb-true (labelAt boxLabels (at k .box)) (labelAt trackLabels (at k .track)) is-like
+
+  pub lists-account : Accounted ok boxes tracks a → Account threshold boxes tracks detections corners boxLabels trackLabels (listsOf a)
+  lists-account acc = record {
+    boxes-apart = acc .boxes-once;
+    tracks-apart = acc .tracks-once;
+    boxes-once = acc .boxes-whole;
+    tracks-once = acc .tracks-whole;
+    halves = length-map (a .matches) (λ (p : Pair). p .box) ∙ sym (length-map (a .matches) (λ (p : Pair). p .track));
+    overlapping = λ k h. rw (box-is k, track-is k) (is-above acc k h);
+    equal-labels = λ k h. rw (box-is k, track-is k) (labels-same acc k h);
+  }
+
+  -- what is written of lists, read back
+  written-is : (l : Lent) → written (assignmentCounts a) (lentAfter a l .lists) ≡ listsOf a
+  written-is l =
+      let ms : List Pair = a .matches in
+      let many : length ms ≡ length (boxesOf ms) = sym (length-map ms (λ (p : Pair). p .box)) in
+      let as-many : length ms ≡ length (tracksOf ms) = sym (length-map ms (λ (p : Pair). p .track)) in
+      rw (
+        over-front (boxesOf ms) (l .lists .pairBoxes) (length ms) many,
+        over-front (tracksOf ms) (l .lists .pairTracks) (length ms) as-many,
+        over-front (a .unmatchedDetections) (l .lists .unmatchedDetections) _ refl,
+        over-front (a .unmatchedTracks) (l .lists .unmatchedTracks) _ refl,
+      )
+
+pub associate-lists : AccountedByDefinition
+associate-lists params boxes tracks detections corners mahalanobis trackConfidence detectionConfidence boxLabels trackLabels few-boxes few-tracks =
+    lists-account boxes tracks detections corners boxLabels trackLabels (params .«iou_threshold») _
+    (account sameLabel params boxes tracks detections corners mahalanobis trackConfidence detectionConfidence boxLabels trackLabels few-boxes few-tracks)
+
+pub accounted-for : AccountedFor
+unfolding associateCall
+accounted-for params boxes tracks detections corners mahalanobis trackConfidence detectionConfidence boxLabels trackLabels l l′ r ends accepted =
+    let a : Assignment = associate params boxes tracks detections corners mahalanobis trackConfidence detectionConfidence boxLabels trackLabels in
+    let zero = sym (ap (λ (c : Call AssignmentCounts Lent). c .number) ends) ∙ accepted in
+    let passes = associate-passes params boxes tracks detections corners mahalanobis trackConfidence detectionConfidence boxLabels trackLabels l zero in
+    let done : callWith r l′ ≡ callBy Accepted (assignmentCounts a) (lentAfter a l) noCounts l = rw passes at ends in
+    let counts : assignmentValues r ≡ assignmentCounts a = ap (λ (c : Call AssignmentCounts Lent). c .counts) done in
+    let left : l′ ≡ lentAfter a l = ap (λ (c : Call AssignmentCounts Lent). c .lent) done in
+    let acc = associate-account params boxes tracks detections corners mahalanobis trackConfidence detectionConfidence boxLabels trackLabels l zero in
+    rw (counts, left, written-is boxes tracks detections corners boxLabels trackLabels (params .«iou_threshold») a l)
+    (lists-account boxes tracks detections corners boxLabels trackLabels (params .«iou_threshold») a acc)

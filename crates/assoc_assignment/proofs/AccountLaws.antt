@@ -1,6 +1,6 @@
 -- The theorem of specs/Account, of the definition alone. Assumes nothing.
 use mathlib.Core.Path.{_≡_, refl, sym, ap, _∙_}
-use mathlib.Core.List.{List, [], _∷_, _++_, map, append-nil}
+use mathlib.Core.List.{List, [], _++_, map, append-nil}
 use mathlib.Core.Bool.{Bool, true, false, cond, not, _||_}
 use Prim.Native.Nat.{ℕ, _+_, _≤_, _<_}
 use native.Mathlib.Omega.{arith}
@@ -12,7 +12,7 @@ use Rattle.laws.specs.Tab.{tab, indices}
 use Rattle.laws.specs.Sieve.{sieve, sieve-all, sieve-at, sieve-agree}
 use Rattle.laws.specs.Elem.{elem, elem-occurs}
 use Rattle.laws.specs.Count.{bit, bit-le}
-use Rattle.laws.specs.Occurs.{occurs, occurs-append, occurs-indices, occurs-sieve, occurs-all}
+use Rattle.laws.specs.Occurs.{occurs, occurs-append, occurs-indices, occurs-sieve, occurs-both, occurs-all}
 use Rattle.assoc_matching.specs.Matching.{Pair, pair, boxesOf, tracksOf, matched, matchDetections}
 use Rattle.assoc_matching.specs.Account.{Distinct}
 use Rattle.assoc_matching.proofs.AccountLaws.{distinct, boxes-in, tracks-in, one-to-one}
@@ -47,17 +47,6 @@ module _ (ok : Pair → Bool) (cost : List Float) (n m : ℕ) (t : Float) where
       by-cases false e true f = sym (ap (validated ok n m) (none-matched (rw (e, f))) ∙ validated-none ∙ rw (no-indices (eqb-true m 0 f)))
       by-cases false e false f = refl
 
--- kept and rejected pairs are all the pairs
-split : (g : Pair → ℕ) (ok : Pair → Bool) (ps : List Pair) (b : ℕ) → occurs b (map g (sieve ok ps)) + occurs b (map g (sieve (λ p. not (ok p)) ps)) ≡ occurs b (map g ps)
-unfolding sieve occurs
-split g ok [] b = refl
-split g ok (p ∷ ps) b = by-cases (ok p) (split g ok ps b)
-  where
-    by-cases : (v : Bool) → occurs b (map g (sieve ok ps)) + occurs b (map g (sieve (λ p. not (ok p)) ps)) ≡ occurs b (map g ps)
-        → occurs b (map g (cond v (p ∷ sieve ok ps) (sieve ok ps))) + occurs b (map g (cond (not v) (p ∷ sieve (λ p. not (ok p)) ps) (sieve (λ p. not (ok p)) ps))) ≡ bit (eqb b (g p)) + occurs b (map g ps)
-    by-cases true e = omega arith
-    by-cases false e = omega arith
-
 -- what is unmatched stands where it is not among xs
 left : (xs : List ℕ) (n b : ℕ) → occurs b (unmatched xs n) ≡ cond (not (elem b xs)) (bit (ltb b n)) 0
 unfolding unmatched
@@ -69,7 +58,7 @@ pub each-once : (g : Pair → ℕ) (ok : Pair → Bool) (ps : List Pair) (n b : 
 each-once g ok ps n b h =
     occurs-append b (map g (sieve ok ps)) (unmatched (map g ps) n ++ map g (sieve (λ p. not (ok p)) ps))
     ∙ ap (λ (o : ℕ). occurs b (map g (sieve ok ps)) + o) (occurs-append b (unmatched (map g ps) n) (map g (sieve (λ p. not (ok p)) ps)))
-    ∙ by-cases (elem b (map g ps)) (elem-occurs b (map g ps)) (split g ok ps b) (left (map g ps) n b)
+    ∙ by-cases (elem b (map g ps)) (elem-occurs b (map g ps)) (occurs-both g ok ps b) (left (map g ps) n b)
   where
     by-cases : (v : Bool) → v ≡ ltb 0 (occurs b (map g ps)) → occurs b (map g (sieve ok ps)) + occurs b (map g (sieve (λ p. not (ok p)) ps)) ≡ occurs b (map g ps)
         → occurs b (unmatched (map g ps) n) ≡ cond (not v) (bit (ltb b n)) 0

@@ -112,6 +112,7 @@ facts-of self state boxes held labels each rises low ids g frame kept {ok} acc a
       sound = rw (same, holds, frame, last, kept, whole) is-sound;
       accepted = λ i h. pairs i h .0;
       corrected = λ i h. pairs i h .1;
+      matched-many = rw (hit, hits-many state held each rises low corners pb pt un halves apart);
       many = rw whole many;
       old-ids = λ i h. rw whole (old-id state held each rises low corners pb pt un halves apart i h);
       new-ids = λ i h. rw whole (new-id-is state held each rises low corners pb pt un halves apart i h);
@@ -130,7 +131,8 @@ frame-is : (self : Settings) (state : State) (objects : Boxes) (trackers : List 
 unfolding updateBy steps stagesFrom
 frame-is self state objects trackers labels = refl
 
-retained-is : (self : Settings) (state : State) (objects : Boxes) (trackers : List Track) (labels : List ℕ)
+-- those stay that are not too old
+pub retained-is : (self : Settings) (state : State) (objects : Boxes) (trackers : List Track) (labels : List ℕ)
     → update self state objects trackers labels .retained ≡ retained (self .«max_age») (update self state objects trackers labels .started .trackers)
 unfolding updateBy steps stagesFrom
 retained-is self state objects trackers labels = refl

@@ -1,6 +1,6 @@
 -- What holds of an accepted frame, for callers: the table that it leaves is sound, every pair's track is corrected, new tracks get ids above the last one given and their boxes' labels, no pair joins two labels,
 -- and the assignment's work is bounded.
--- Each is said of one frame; what follows for a whole history of frames is not stated here. `frame-facts` of proofs/FactLaws.antt says that it holds.
+-- Each is said of one frame, and `frame-facts` of proofs/FactLaws.antt says that it holds; what follows for whole histories of frames is stated in boost_tracker_history.
 use mathlib.Core.Path.{_≡_}
 use mathlib.Core.Bool.{true, false}
 use mathlib.Core.List.{List}
@@ -40,6 +40,8 @@ pub record FrameFacts (self : Settings) (state : State) (boxes : Boxes) (tracker
   -- no correction is refused, and each pair's track is the corrected one
   pub accepted : (k : ℕ) → k < length (g .result .matches) → correctionAt g k .0 ≡ 0
   pub corrected : (k : ℕ) → k < length (g .result .matches) → trackerAt (g .matched) (pairAt g k .track) ≡ correctionAt g k .1
+  -- no track is lost at a match
+  pub matched-many : length (g .matched) ≡ length trackers
   -- a held track keeps its id; the unmatched boxes' tracks stand behind those held and get the ids after the state's last one, in their order
   pub many : length (g .started .trackers) ≡ length trackers + length (g .result .unmatchedDetections)
   pub old-ids : (i : ℕ) → i < length trackers → trackerAt (g .started .trackers) i .id ≡ trackerAt trackers i .id

@@ -1,7 +1,7 @@
 -- How often a number stands in a list: lists without repetition, and the pigeonhole. Assumes nothing.
 use mathlib.Core.Path.{_≡_, refl, sym, ap, _∙_}
-use mathlib.Core.Bool.{Bool, true, false, cond}
-use mathlib.Core.List.{List, [], _∷_, _++_}
+use mathlib.Core.Bool.{Bool, true, false, cond, not}
+use mathlib.Core.List.{List, [], _∷_, _++_, map}
 use Prim.Native.Nat.{ℕ, zero, suc, _+_, _≤_, _<_, zero-le}
 use native.Mathlib.Nat.{le-refl, le-of-eq, add-zero, zero-add, le-trans, not-suc-le-zero, le-of-suc-le-suc}
 use native.Mathlib.Numerals.{one-add}
@@ -46,6 +46,31 @@ occurs-sieve b q (x ∷ xs) = by-cases (eqb b x) refl (q x) refl (occurs-sieve b
     by-cases true e false f r = let s = eqb-true b x e in let g : q b ≡ false = rw s f in rw g (rw g at r)
     by-cases false e true f r = rw (e, zero-add, zero-add) r
     by-cases false e false f r = rw zero-add r
+
+-- what passes a test and what does not are all, by any number that each has
+pub occurs-both : {X : Type 0} (g : X → ℕ) (p : X → Bool) (xs : List X) (b : ℕ) → occurs b (map g (sieve p xs)) + occurs b (map g (sieve (λ x. not (p x)) xs)) ≡ occurs b (map g xs)
+unfolding sieve occurs
+occurs-both g p [] b = refl
+occurs-both g p (x ∷ xs) b = by-cases (p x) (occurs-both g p xs b)
+  where
+    by-cases : (v : Bool) → occurs b (map g (sieve p xs)) + occurs b (map g (sieve (λ x. not (p x)) xs)) ≡ occurs b (map g xs)
+        → occurs b (map g (cond v (x ∷ sieve p xs) (sieve p xs))) + occurs b (map g (cond (not v) (x ∷ sieve (λ x. not (p x)) xs) (sieve (λ x. not (p x)) xs))) ≡ bit (eqb b (g x)) + occurs b (map g xs)
+    by-cases true e = omega arith
+    by-cases false e = omega arith
+
+-- 1, 2, .. n with a 0 before them are the indices of n + 1
+occurs-from-one : (b n : ℕ) → bit (eqb b 0) + occurs b (tab suc n) ≡ occurs b (indices (suc n))
+unfolding tab occurs
+occurs-from-one b zero = refl
+occurs-from-one b (suc n) =
+    let e = occurs-from-one b n in
+    let l = occurs-append b (tab suc n) (suc n ∷ []) in
+    let r = occurs-append b (indices (suc n)) (suc n ∷ []) in
+    omega arith
+
+-- of 1, 2, .. n none stands twice
+pub occurs-counted : (b n : ℕ) → occurs b (tab suc n) ≤ 1
+occurs-counted b n = let e = occurs-from-one b n in let i = occurs-indices b (suc n) in let h = bit-le (ltb b (suc n)) in omega arith
 
 eqb-sym : (a b : ℕ) → eqb a b ≡ eqb b a
 eqb-sym a b = by-cases (eqb b a) refl

@@ -1,8 +1,8 @@
 -- Those of a list that pass a test, in its order: what a loop that keeps some of what it meets gives. Assumes nothing.
 use mathlib.Core.Path.{_≡_, refl, _∙_}
-use mathlib.Core.Bool.{Bool, true, false, cond}
+use mathlib.Core.Bool.{Bool, true, false, cond, not}
 use mathlib.Core.List.{List, [], _∷_, _++_, append-nil}
-use Prim.Native.Nat.{ℕ, zero, suc, _≤_, _<_, zero-le}
+use Prim.Native.Nat.{ℕ, zero, suc, _+_, _≤_, _<_, zero-le}
 use native.Mathlib.Nat.{not-suc-le-zero, le-of-suc-le-suc}
 use native.Mathlib.Omega.{arith}
 use lib.ListN.{length, getD}
@@ -68,3 +68,14 @@ sieve-agree p q [] d e = refl
 sieve-agree p q (x ∷ xs) d e =
     let first : p x ≡ q x = e 0 (omega arith) in
     rw (first, sieve-agree p q xs d (λ i h. e (suc i) (omega arith)))
+
+-- those that pass a test and those that do not are all
+pub sieve-both : {X : Type 0} (p : X → Bool) (xs : List X) → length (sieve p xs) + length (sieve (λ x. not (p x)) xs) ≡ length xs
+unfolding sieve
+sieve-both p [] = refl
+sieve-both p (x ∷ xs) = by-cases (p x) (sieve-both p xs)
+  where
+    by-cases : (b : Bool) → length (sieve p xs) + length (sieve (λ x. not (p x)) xs) ≡ length xs
+        → length (cond b (x ∷ sieve p xs) (sieve p xs)) + length (cond (not b) (x ∷ sieve (λ x. not (p x)) xs) (sieve (λ x. not (p x)) xs)) ≡ suc (length xs)
+    by-cases true e = omega arith
+    by-cases false e = omega arith

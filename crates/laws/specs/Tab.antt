@@ -1,6 +1,6 @@
 -- A list given by its elements (`tab`), and one whose front is given so (`filled`): what a loop that stores one element a turn leaves. Assumes nothing.
 use mathlib.Core.Path.{_≡_, refl, sym, ap, subst, _∙_}
-use mathlib.Core.List.{List, [], _∷_, _++_, map, append-nil, map-append}
+use mathlib.Core.List.{List, [], _∷_, _++_, map, append-nil, append-assoc, map-append}
 use mathlib.Core.Logic.{⊎-elim}
 use Prim.Native.Nat.{ℕ, zero, suc, _+_, _-_, _≤_, _<_, zero-le}
 use native.Mathlib.Nat.{not-suc-le-zero, le-refl, eq-or-lt-of-le, le-of-suc-le-suc}
@@ -46,6 +46,14 @@ module _ {A : Type 0} where
   pub tab-of : (f : ℕ → A) (l : List A) (n : ℕ) (d : A) → length l ≡ n → ((i : ℕ) → i < n → getD l i d ≡ f i) → l ≡ tab f n
   tab-of f l n d e h =
       ext-getD d l (tab f n) (e ∙ sym (length-tab f n)) (λ (i : ℕ) (q : i < length l). let r : i < n = rw e at q in h i r ∙ sym (tab-at f n i d r))
+
+  -- the first m elements, and n more
+  pub tab-add : (f : ℕ → A) (m n : ℕ) → tab f (m + n) ≡ tab f m ++ tab (λ i. f (m + i)) n
+  unfolding tab
+  tab-add f m zero = let e : m + 0 ≡ m = omega arith in ap (tab f) e ∙ sym (append-nil (tab f m))
+  tab-add f m (suc n) =
+      let e : m + suc n ≡ suc (m + n) = omega arith in
+      ap (tab f) e ∙ ap (λ (l : List A). l ++ (f (m + n) ∷ [])) (tab-add f m n) ∙ append-assoc (tab f m) (tab (λ i. f (m + i)) n) (f (m + n) ∷ [])
 
   pub replicate-tab : (n : ℕ) (a : A) → replicate n a ≡ tab (λ _. a) n
   replicate-tab n a = tab-of (λ _. a) (replicate n a) n a (length-replicate n a) (λ i h. getD-replicate n i a a h)

@@ -1,25 +1,15 @@
 -- The records of bytes that come in buffers of whole records: those of two parts one after the other, and the next one of a buffer. Assumes nothing.
 use mathlib.Core.Path.{_≡_, sym, ap, _∙_}
-use mathlib.Core.List.{List, [], _∷_, _++_, append-assoc, append-nil}
-use Prim.Native.Nat.{ℕ, zero, suc, _+_, _*_, _/_, _%_, _≤_, _<_}
+use mathlib.Core.List.{List, [], _∷_, _++_}
+use Prim.Native.Nat.{ℕ, suc, _+_, _*_, _/_, _%_, _≤_, _<_}
 use native.Mathlib.Omega.{arith}
 use lib.ListN.{length, take, drop, take-append-drop, length-drop, length-append}
 use lib.Seq.{take-append-le, drop-append-le, drop-append-add, drop-cons, drop-length, length-take-le}
-use Rattle.laws.specs.Tab.{tab, length-tab, tab-at, tab-ext}
+use Rattle.laws.specs.Tab.{tab, length-tab, tab-at, tab-ext, tab-add}
 use Rattle.records.specs.declared.box_record.BoxRecord.{BoxRecord}
 use Rattle.records.specs.Field.{part}
 use Rattle.records.specs.BoxRecord.{boxBytes, boxOf}
 use Rattle.trackbox_stream.specs.Stream.{boxRecords}
-
-module _ {A : Type 0} (f : ℕ → A) where
-  tab-add : (m n : ℕ) → tab f (m + n) ≡ tab f m ++ tab (λ (i : ℕ). f (m + i)) n
-  unfolding tab
-  tab-add m zero = let e : m + 0 ≡ m = omega arith in ap (tab f) e ∙ sym (append-nil (tab f m))
-  tab-add m (suc n) =
-      let e : m + suc n ≡ suc (m + n) = omega arith in
-      ap (tab f) e
-      ∙ ap (λ (l : List A). l ++ (f (m + n) ∷ [])) (tab-add m n)
-      ∙ append-assoc (tab f m) (tab (λ (i : ℕ). f (m + i)) n) (f (m + n) ∷ [])
 
 abbrev pub recordAt : List ℕ → ℕ → BoxRecord
 recordAt l k = boxOf (part (k * boxBytes) boxBytes l)
