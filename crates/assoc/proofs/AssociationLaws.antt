@@ -1,103 +1,42 @@
--- What an accepted call of associate knows, and that its stages, one after the other, are the definition. Assumes nothing.
+-- That the stages of an accepted call of associate, one after the other, are the definition. Assumes nothing.
 use mathlib.Core.Path.{_≡_, refl, sym, ap, _∙_}
-use mathlib.Core.Bool.{Bool, true, false, not, cond, _&&_, _||_}
+use mathlib.Core.Bool.{Bool, true, false, cond, _&&_}
 use mathlib.Core.List.{List, [], _++_}
-use Prim.Native.Nat.{ℕ, _+_, _-_, _*_, _≤_, _<_, max}
-use native.Mathlib.Nat.{mul-le-mul, add-sub-cancel-left, le-max-left, le-max-right}
+use Prim.Native.Nat.{ℕ, _+_, _-_, _*_, _≤_, _<_}
+use native.Mathlib.Nat.{add-sub-cancel-left}
 use native.Mathlib.Omega.{arith}
-use lib.Dec.{ltb, eqb}
+use lib.Dec.{eqb}
 use lib.Ieee.{Float, nan, inf, fin, binary32, ofBits, div, le, lt, eq}
 use lib.ListN.{length, getD, take, drop, replicate, length-drop, length-replicate, List·getD-append}
 use lib.Seq.{getD-take, take-at, drop-at, length-take-le}
-use borrow.Author.Tests.{ltb-false, eqb-true, le-ltb, eq-eqb}
+use borrow.Author.Tests.{eqb-true, le-ltb, eq-eqb}
 use borrow.Rule.Slice.PartMut.{putMid}
-use Rattle.laws.specs.Tests.{or-none, false-not-true}
+use Rattle.laws.specs.Tests.{false-not-true}
 use Rattle.laws.specs.Tab.{tab, indices}
 use Rattle.laws.specs.Splice.{mid-splice}
 use Rattle.laws.specs.Grid.{cellAt, grid, grid-at, grid-over, grid-ext, grid-whole, length-grid, row-ends}
 use Rattle.labels.specs.Label.{alike, whereAlike}
 use Rattle.floats.specs.Single.{one, plusZero}
-use Rattle.assoc.specs.declared.cost.AssociateParams.{AssociateParams}
+use Rattle.assoc_cost.specs.declared.cost.AssociateParams.{AssociateParams}
 use Rattle.refusals.specs.declared.refusal.Refusal.{Refusal}
 use Rattle.refusals.specs.declared.refusal.Verdict.{Verdict}
 use Rattle.refusals.specs.declared.refusal.Verdict.the-variants.{Accepted, Refused}
-use Rattle.refusals.specs.Refusal.{tooMany}
 use Rattle.assoc_similarity.specs.Sizes.{ofCorners, ofCells, ofDistances, Ready, after}
 use Rattle.assoc_similarity.specs.Overlap.{boxAt, iouBatch}
 use Rattle.assoc_similarity.specs.Mahalanobis.{mhDistSimilarity}
-use Rattle.assoc.specs.Cost.{costMatrix}
-use Rattle.refusals.proofs.Laws.{passed, labelled-passed, few-sides, same-size}
-use Rattle.assoc.proofs.CostLaws.{cost-ext}
+use Rattle.assoc_cost.specs.Cost.{costMatrix}
+use Rattle.assoc_cost.proofs.CostLaws.{cost-ext}
 use Rattle.assoc_assignment.specs.declared.assignment.AssignmentCounts.{AssignmentCounts}
 use Rattle.assoc_matching.specs.Matching.{Pair, matchDetections}
 use Rattle.assoc_assignment.specs.Assignment.{assignment, validMatch, validated, assignedBy, linearAssignment}
 use Rattle.assoc_assignment.proofs.AccountLaws.{assigned-agree}
 use Rattle.assoc_matching.specs.Answers.{Call}
-use Rattle.assoc_assignment.specs.Answers.{Room, assignmentShort, assignmentVerdict, assignmentCall}
+use Rattle.assoc_assignment.specs.Answers.{assignmentCall}
 use Rattle.assoc_assignment.specs.Answers as Assignments
 use Rattle.assoc.specs.Association.{ious, costs, stands, associateBy}
-use Rattle.assoc.specs.Answers.{otherSize, otherLabels, associateShort, withinVerdict, associateSizes, associateVerdict, cleared}
-use Rattle.assoc.specs.Private.{Cornered, Likened, markedIous, Halves, withFloats}
-
--- ---- the verdict
-
--- what an accepted call has been found to hold: corners that fit, and what linear_assignment accepts
-pub record AssociateReady (boxes tracks detections corners : ℕ) (room : Room) (work64 work32 : ℕ) : Type 0 where
-  pub cornered : Cornered boxes tracks detections corners work32
-  pub assigned : assignmentVerdict boxes tracks (boxes * tracks) (boxes * tracks) room work64 ≡ Accepted
-
-module _ (params : AssociateParams) (boxes tracks detections corners trackConfidence detectionConfidence : ℕ) (room : Room) (work64 work32 : ℕ) where
-  -- past the tests of its own, within_verdict leaves the rest to linear_assignment's
-  pub within-rest : tooMany boxes tracks ≡ false → otherSize params boxes tracks detections corners trackConfidence detectionConfidence ≡ false → ltb work32 (4 * (max boxes tracks * max boxes tracks)) ≡ false
-      → assignmentVerdict boxes tracks (boxes * tracks) (boxes * tracks) room work64
-      ≡ withinVerdict params boxes tracks detections corners trackConfidence detectionConfidence room work64 work32
-  unfolding assignmentVerdict withinVerdict
-  within-rest e f g = rw (e, f, g, eq-eqb (boxes * tracks) (boxes * tracks) refl)
-
-  -- and associate_sizes to within_verdict
-  pub sizes-rest : (mahalanobis boxLabels trackLabels : ℕ) → tooMany boxes tracks ≡ false → (params .«has_mahalanobis» && not (eqb mahalanobis (boxes * tracks))) ≡ false
-      → otherLabels boxes tracks boxLabels trackLabels ≡ false
-      → withinVerdict params boxes tracks detections corners trackConfidence detectionConfidence room work64 work32
-      ≡ associateSizes params boxes tracks detections corners mahalanobis trackConfidence detectionConfidence boxLabels trackLabels room work64 work32
-  unfolding withinVerdict associateSizes
-  sizes-rest mahalanobis boxLabels trackLabels e f g = rw (e, f, g)
-
-  -- what an accepted call knows
-  pub within-ready : withinVerdict params boxes tracks detections corners trackConfidence detectionConfidence room work64 work32 ≡ Accepted
-      → AssociateReady boxes tracks detections corners room work64 work32
-  unfolding withinVerdict
-  within-ready e =
-      let n : ℕ = max boxes tracks in
-      let p = passed _ _ _ e in
-      let low = few-sides boxes tracks (p .few) in
-      let s = or-none (not (eqb detections (boxes * 4))) (not (eqb corners (tracks * 4))) (or-none (not (eqb detections (boxes * 4)) || not (eqb corners (tracks * 4))) _ (p .sized) .0) in
-      let r = or-none (ltb work32 (4 * (n * n))) (assignmentShort boxes tracks room work64) (p .enough) in
-      let square : boxes * tracks ≤ n * n = mul-le-mul (le-max-left boxes tracks) (le-max-right boxes tracks) in
-      let floats = ltb-false work32 (4 * (n * n)) (r .0) in
-      record {
-        cornered = record { few-rows = low .0; few-cols = low .1; detections-fit = same-size detections (boxes * 4) (s .0); corners-fit = same-size corners (tracks * 4) (s .1); room = omega arith };
-        assigned = within-rest (p .few) (p .sized) (r .0) ∙ e;
-      }
-
-  sizes-ready : (mahalanobis boxLabels trackLabels : ℕ)
-      → associateSizes params boxes tracks detections corners mahalanobis trackConfidence detectionConfidence boxLabels trackLabels room work64 work32 ≡ Accepted
-      → AssociateReady boxes tracks detections corners room work64 work32 × (params .«has_mahalanobis» ≡ true → mahalanobis ≡ boxes * tracks)
-  unfolding associateSizes
-  sizes-ready mahalanobis boxLabels trackLabels e =
-      let far : Bool = params .«has_mahalanobis» && not (eqb mahalanobis (boxes * tracks)) in
-      let size : Bool = otherSize params boxes tracks detections corners trackConfidence detectionConfidence in
-      let p = passed (tooMany boxes tracks) (far || (otherLabels boxes tracks boxLabels trackLabels || size)) (associateShort boxes tracks room work64 work32) e in
-      let s = or-none far (otherLabels boxes tracks boxLabels trackLabels || size) (p .sized) in
-      let r = or-none (otherLabels boxes tracks boxLabels trackLabels) size (s .1) in (
-        within-ready (sizes-rest mahalanobis boxLabels trackLabels (p .few) (s .0) (r .0) ∙ e),
-        λ h. same-size mahalanobis (boxes * tracks) (ap (λ (b : Bool). b && not (eqb mahalanobis (boxes * tracks))) (sym h) ∙ s .0),
-      )
-
-  pub associate-ready : (mahalanobis : ℕ) (boxLabels trackLabels : List ℕ)
-      → associateVerdict params boxes tracks detections corners mahalanobis trackConfidence detectionConfidence boxLabels trackLabels room work64 work32 ≡ Accepted
-      → AssociateReady boxes tracks detections corners room work64 work32 × (params .«has_mahalanobis» ≡ true → mahalanobis ≡ boxes * tracks)
-  unfolding associateVerdict
-  associate-ready mahalanobis boxLabels trackLabels e = sizes-ready mahalanobis (length boxLabels) (length trackLabels) (labelled-passed _ _ e .0)
+use Rattle.assoc_verdict.specs.Verdict.{Cornered}
+use Rattle.assoc.specs.Answers.{cleared}
+use Rattle.assoc.specs.Private.{Likened, markedIous, Halves, withFloats}
 
 -- ---- the matrices: the crate below accepts what is lent
 

@@ -9,20 +9,22 @@ use Rattle.laws.specs.Tab.{tab}
 use Rattle.laws.specs.Grid.{cellAt}
 use Rattle.labels.specs.Label.{sameLabel, alike, whereAlike}
 use Rattle.floats.specs.Single.{plusZero}
-use Rattle.assoc.specs.declared.cost.AssociateParams.{AssociateParams}
+use Rattle.assoc_cost.specs.declared.cost.AssociateParams.{AssociateParams}
 use Rattle.refusals.specs.declared.refusal.Refusal.{Refusal}
 use Rattle.refusals.specs.declared.refusal.Verdict.{Verdict}
 use Rattle.refusals.specs.declared.refusal.Verdict.the-variants as verdict
 use Rattle.assoc_similarity.specs.Overlap.{iouBatch}
-use Rattle.assoc.specs.Cost.{costMatrix}
+use Rattle.assoc_cost.specs.Cost.{costMatrix}
 use Rattle.assoc_assignment.specs.declared.assignment.AssignmentAnswer.the-variants.{Assigned, Refused}
 use Rattle.assoc_assignment.specs.Assignment.{Assignment, linearAssignment}
 use Rattle.assoc_assignment.specs.Answers.{roomOf, assignmentCounts, callWith, assignmentVerdict, assignmentCall}
 use Rattle.assoc_assignment.specs.Answers as Assignments
 use Rattle.assoc.specs.Association.{costs, associate}
-use Rattle.assoc.specs.Answers.{Lent, cleared, lentAfter, withinVerdict, associateVerdict, associateCall, withinCall}
+use Rattle.assoc.specs.Answers.{Lent, cleared, lentAfter, associateCall, withinCall}
+use Rattle.assoc_verdict.specs.Verdict.{withinVerdict, associateVerdict}
 use Rattle.assoc.specs.Private.{Likened, markedIous, withFloats}
-use Rattle.assoc.proofs.AssociationLaws.{AssociateReady, length-matrix, associate-is}
+use Rattle.assoc_verdict.proofs.Laws.{AssociateReady}
+use Rattle.assoc.proofs.AssociationLaws.{length-matrix, associate-is}
 
 -- what linear_assignment is lent of it
 abbrev pub lentFor : Lent → Assignments.Lent

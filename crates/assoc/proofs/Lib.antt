@@ -1,5 +1,4 @@
 -- What holds of an accepted call is in Theorem, and that equal labels change nothing in UnlabelledLaws. The other files are laws that the proofs of several functions cite.
-pub mod CostLaws
 pub mod AssociationLaws
 pub mod EndLaws
 pub mod UnlabelledLaws

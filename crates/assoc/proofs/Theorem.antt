@@ -11,7 +11,7 @@ use Rattle.laws.specs.Over.{over-front}
 use Rattle.laws.specs.Grid.{grid, grid-at}
 use Rattle.labels.specs.Label.{labelAt, sameLabel, alike, whereAlike}
 use Rattle.floats.specs.Single.{one, plusZero}
-use Rattle.assoc.specs.declared.cost.AssociateParams.{AssociateParams}
+use Rattle.assoc_cost.specs.declared.cost.AssociateParams.{AssociateParams}
 use Rattle.refusals.specs.declared.refusal.Verdict.the-variants.{Accepted}
 use Rattle.assoc_similarity.specs.Overlap.{boxAt, overlap, iouBatch}
 use Rattle.assoc_similarity.specs.Mahalanobis.{mhDistSimilarity}
@@ -24,9 +24,11 @@ use Rattle.assoc_assignment.specs.Account.{Accounted}
 use Rattle.assoc_assignment.specs.Answers.{roomOf, assignmentCounts, noCounts, assignmentValues, callWith}
 use Rattle.assoc_assignment.proofs.AccountLaws.{accounted}
 use Rattle.assoc.specs.Association.{ious, labelRule, costs, stands, associateBy, associate}
-use Rattle.assoc.specs.Answers.{Lent, lentAfter, withinVerdict, associateVerdict, associateCall, withinCall}
+use Rattle.assoc.specs.Answers.{Lent, lentAfter, associateCall, withinCall}
+use Rattle.assoc_verdict.specs.Verdict.{withinVerdict, associateVerdict}
 use Rattle.assoc.specs.Account.{Account, written, AccountedFor, listsOf, AccountedByDefinition}
-use Rattle.assoc.proofs.AssociationLaws.{as-assigned, associate-ready, within-ready}
+use Rattle.assoc.proofs.AssociationLaws.{as-assigned}
+use Rattle.assoc_verdict.proofs.Laws.{associate-ready, within-ready}
 
 -- for at most 255 boxes and 255 tracks, and floats of any bit patterns, by any rule for two labels: no pair joins two that are not alike, and every pair's IoU is at least the threshold
 pub account : (same : ℕ → ℕ → Bool) (params : AssociateParams) (boxes tracks : ℕ) (detections corners mahalanobis trackConfidence detectionConfidence : List Float) (boxLabels trackLabels : List ℕ)

@@ -8,13 +8,13 @@ use borrow.Author.Tests.{eq-eqb}
 use Rattle.laws.specs.Grid.{grid, grid-ext}
 use Rattle.labels.specs.Label.{labelAt, sameLabel, always, alike, whereAlike}
 use Rattle.floats.specs.Single.{one, plusZero}
-use Rattle.assoc.specs.declared.cost.AssociateParams.{AssociateParams}
+use Rattle.assoc_cost.specs.declared.cost.AssociateParams.{AssociateParams}
 use Rattle.assoc_similarity.specs.Overlap.{iouBatch}
 use Rattle.assoc_similarity.specs.Mahalanobis.{mhDistSimilarity}
 use Rattle.assoc_matching.specs.Matching.{Pair}
 use Rattle.assoc_assignment.specs.Assignment.{assignedBy}
 use Rattle.assoc_assignment.proofs.AccountLaws.{assigned-agree}
-use Rattle.assoc.specs.Cost.{costMatrix}
+use Rattle.assoc_cost.specs.Cost.{costMatrix}
 use Rattle.assoc.specs.Association.{ious, stands, associateBy}
 use Rattle.assoc.specs.Unlabelled.{associateUnlabelled, WithAlways, WithEqual}
 use Rattle.assoc.proofs.AssociationLaws.{as-assigned}

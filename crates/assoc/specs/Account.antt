@@ -18,7 +18,7 @@ use Rattle.assoc_assignment.specs.declared.assignment.AssignmentCounts.{Assignm
 use Rattle.assoc_assignment.specs.declared.assignment.AssignmentAnswer.{AssignmentAnswer}
 use Rattle.assoc_assignment.specs.Assignment.{Assignment}
 use Rattle.assoc_assignment.specs.Answers.{Lists, listsWith, assignmentNumber, assignmentValues, callWith}
-use Rattle.assoc.specs.declared.cost.AssociateParams.{AssociateParams}
+use Rattle.assoc_cost.specs.declared.cost.AssociateParams.{AssociateParams}
 use Rattle.assoc.specs.Association.{associate}
 use Rattle.assoc.specs.Answers.{Lent, associateCall}
 

@@ -8,11 +8,11 @@ use Rattle.laws.specs.Tab.{indices}
 use Rattle.laws.specs.Grid.{grid}
 use Rattle.labels.specs.Label.{sameLabel, alike, whereAlike}
 use Rattle.floats.specs.Single.{one, plusZero}
-use Rattle.assoc.specs.declared.cost.AssociateParams.{AssociateParams}
+use Rattle.assoc_cost.specs.declared.cost.AssociateParams.{AssociateParams}
 use Rattle.assoc_boxes.specs.declared.overlap.OverlapAreas.{OverlapAreas}
 use Rattle.assoc_similarity.specs.Overlap.{iouBatch}
 use Rattle.assoc_similarity.specs.Mahalanobis.{mhDistSimilarity}
-use Rattle.assoc.specs.Cost.{costMatrix}
+use Rattle.assoc_cost.specs.Cost.{costMatrix}
 use Rattle.assoc_matching.specs.Matching.{Pair}
 use Rattle.assoc_assignment.specs.Assignment.{Assignment, assignment, validMatch, assignedBy}
 

@@ -16,13 +16,13 @@ use Rattle.laws.specs.Count.{countWhere}
 use Rattle.laws.specs.Most.{most}
 use Rattle.labels.specs.Label.{sameLabel}
 use Rattle.floats.specs.Known.{f32, bits}
-use Rattle.floats.specs.Pick.{larger, smaller}
-use Rattle.assoc.specs.declared.cost.AssociateParams.{AssociateParams}
+use Rattle.floats_pick.specs.Pick.{larger, smaller}
+use Rattle.assoc_cost.specs.declared.cost.AssociateParams.{AssociateParams}
 use Rattle.assoc_boxes.specs.declared.overlap.OverlapAreas.{OverlapAreas}
 use Rattle.assoc_similarity.specs.Overlap.{intersection, union, ratio, overlap, boxAt}
 use Rattle.assoc_matching.specs.Matching.{boxesOf, tracksOf, above, simple, simpleMatches, matchDetections}
 use Rattle.assoc_assignment.specs.Assignment.{Assignment, unmatched, validMatch, assignedBy}
-use Rattle.assoc.specs.Cost.{costCell}
+use Rattle.assoc_cost.specs.Cost.{costCell}
 use Rattle.assoc.specs.Association.{labelRule, stands, associateBy, associate}
 
 abbrev whole : ℕ → Float

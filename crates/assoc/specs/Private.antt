@@ -1,30 +1,19 @@
 -- What the contracts of the private functions cite. proofs/ shows that it comes to the definition.
 use mathlib.Core.Path.{_≡_}
-use mathlib.Core.Bool.{Bool, true, cond}
+use mathlib.Core.Bool.{Bool, true}
 use mathlib.Core.List.{List, []}
-use Prim.Native.Nat.{ℕ, _*_, _≤_, _<_}
+use Prim.Native.Nat.{ℕ, _<_}
 use lib.Ieee.{Float, nan}
 use lib.ListN.{take, drop}
 use Rattle.laws.specs.Grid.{cellAt, grid}
 use Rattle.labels.specs.Label.{whereAlike}
-use Rattle.floats.specs.Single.{_⊕_, _⊗_, one}
-use Rattle.assoc_boxes.specs.declared.overlap.BoundingBox.{BoundingBox}
+use Rattle.floats.specs.Single.{one}
 use Rattle.assoc_similarity.specs.Overlap.{iouBatch}
-use Rattle.assoc_similarity.specs.Shape.{shapeV1, shapeV2}
 use Rattle.assoc_similarity.specs.Mahalanobis.{mhDistSimilarity}
 use Rattle.assoc_assignment.specs.declared.assignment.AssignmentCounts.{AssignmentCounts}
 use Rattle.assoc_matching.specs.Answers.{Call}
 use Rattle.assoc_assignment.specs.Answers as Assignments
-use Rattle.assoc.specs.declared.cost.AssociateParams.{AssociateParams}
 use Rattle.assoc.specs.Answers.{Lent}
-
--- corners that fit the sides, and room for two matrices
-pub record Cornered (boxes tracks detections corners cells : ℕ) : Type 0 where
-  pub few-rows : boxes ≤ 255
-  pub few-cols : tracks ≤ 255
-  pub detections-fit : detections ≡ boxes * 4
-  pub corners-fit : corners ≡ tracks * 4
-  pub room : 2 * (boxes * tracks) ≤ cells
 
 -- the front of a list holds the similarities of the distances, where there are any
 pub record Likened (has : Bool) (boxes tracks : ℕ) (distance cells : List Float) : Type 0 where
@@ -42,15 +31,3 @@ pub record Halves (n : ℕ) (cost iou cells : List Float) : Type 0 where
 -- a call of linear_assignment, with the floats that lie beside it
 abbrev pub withFloats : List Float → Call AssignmentCounts Assignments.Lent → Call AssignmentCounts Lent
 withFloats work32 c = record { number = c .number; counts = c .counts; lent = record { lists = c .lent .lists; work64 = c .lent .work; work32 = work32 } }
-
--- ---- the cost of a cell, with confidences and without
-
-unfoldable pub sureCost : AssociateParams → BoundingBox → BoundingBox → Float → Float → Float → Float
-sureCost params det trk iou conf mhSim =
-    let weighted : Float = iou ⊕ params .«lambda_iou» ⊗ conf ⊗ iou in
-    cond (params .«has_mahalanobis»)
-    (weighted ⊕ params .«lambda_mhd» ⊗ mhSim ⊕ params .«lambda_shape» ⊗ conf ⊗ cond (params .«use_shape_similarity_correction») (shapeV2 det trk) (shapeV1 det trk))
-    weighted
-
-unfoldable pub unsureCost : AssociateParams → Float → Float → Float
-unsureCost params iou mhSim = cond (params .«has_mahalanobis») (iou ⊕ params .«lambda_mhd» ⊗ mhSim) iou

@@ -10,10 +10,10 @@ use Rattle.laws.specs.Tab.{indices}
 use Rattle.laws.specs.Grid.{grid}
 use Rattle.labels.specs.Label.{labelAt, always}
 use Rattle.floats.specs.Single.{one}
-use Rattle.assoc.specs.declared.cost.AssociateParams.{AssociateParams}
+use Rattle.assoc_cost.specs.declared.cost.AssociateParams.{AssociateParams}
 use Rattle.assoc_similarity.specs.Overlap.{iouBatch}
 use Rattle.assoc_similarity.specs.Mahalanobis.{mhDistSimilarity}
-use Rattle.assoc.specs.Cost.{costMatrix}
+use Rattle.assoc_cost.specs.Cost.{costMatrix}
 use Rattle.assoc_assignment.specs.Assignment.{Assignment, assignment, linearAssignment}
 use Rattle.assoc.specs.Association.{associateBy, associate}
 

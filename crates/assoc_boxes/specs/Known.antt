@@ -5,7 +5,7 @@ use Prim.Native.Nat.{ℕ}
 use lib.IntN.{pos}
 use lib.Ieee.{Float, binary32, ofBits, toBits, ofInt, isNan, add, sub, mul, div, sum, lt, le, eq, round, units, odd, size, climb, span, ofFields}
 use Rattle.floats.specs.Known.{f32, bits}
-use Rattle.floats.specs.Pick.{larger, smaller}
+use Rattle.floats_pick.specs.Pick.{larger, smaller}
 use Rattle.assoc_boxes.specs.declared.overlap.BoundingBox.{BoundingBox}
 use Rattle.assoc_boxes.specs.Overlap.{boundingBox, intersection, union, ratio, overlap}
 

@@ -2,7 +2,7 @@
 use mathlib.Core.Path.{_≡_, refl}
 use mathlib.Core.Bool.{false, cond}
 use lib.Ieee.{Float, binary32, ofBits, round, lt}
-use Rattle.floats.specs.Pick.{larger, smaller}
+use Rattle.floats_pick.specs.Pick.{larger, smaller}
 use Rattle.floats.specs.Single.{_⊕_, _⊖_, _⊗_, _⊘_, plusZero, one}
 use Rattle.assoc_boxes.specs.declared.overlap.BoundingBox.{BoundingBox}
 use Rattle.assoc_boxes.specs.declared.overlap.OverlapAreas.{OverlapAreas}

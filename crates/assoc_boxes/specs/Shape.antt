@@ -1,7 +1,7 @@
 -- assoc.rs, shape_similarity_v1 and shape_similarity_v2: a cell of each matrix, of a detection's box and a track's.
 use lib.Ieee.{Float, neg}
 use Rattle.floats.specs.Single.{_⊕_, _⊖_, _⊘_}
-use Rattle.floats.specs.Pick.{larger, abs}
+use Rattle.floats_pick.specs.Pick.{larger, abs}
 use Rattle.floats.specs.Exponential.{exp}
 use Rattle.assoc_boxes.specs.declared.overlap.BoundingBox.{BoundingBox}
 

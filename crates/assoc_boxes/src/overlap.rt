@@ -33,12 +33,12 @@ pub fn bounding_box(x1: f32, y1: f32, x2: f32, y2: f32) -> BoundingBox
 fn intersection(det: BoundingBox, trk: BoundingBox) -> f32
     ensures { λ r. ⌜ r ≡ Overlap.intersection det trk ⌝ }
 {
-    let xx1 = floats::max(det.x1, trk.x1);
-    let yy1 = floats::max(det.y1, trk.y1);
-    let xx2 = floats::min(det.x2, trk.x2);
-    let yy2 = floats::min(det.y2, trk.y2);
-    let w = floats::max(xx2 - xx1, 0.0);
-    let h = floats::max(yy2 - yy1, 0.0);
+    let xx1 = floats_pick::max(det.x1, trk.x1);
+    let yy1 = floats_pick::max(det.y1, trk.y1);
+    let xx2 = floats_pick::min(det.x2, trk.x2);
+    let yy2 = floats_pick::min(det.y2, trk.y2);
+    let w = floats_pick::max(xx2 - xx1, 0.0);
+    let h = floats_pick::max(yy2 - yy1, 0.0);
     w * h
 }
 

@@ -7,9 +7,9 @@ use super::overlap::BoundingBox;
 pub fn exponent_v1(det: BoundingBox, trk: BoundingBox) -> f32
     ensures { λ r. ⌜ r ≡ Shape.exponentV1 det trk ⌝ }
 {
-    let denom = floats::max(det.w, trk.w);
-    let of_widths = floats::abs(det.w - trk.w) / denom;
-    let of_heights = floats::abs(det.h - trk.h) / denom;
+    let denom = floats_pick::max(det.w, trk.w);
+    let of_widths = floats_pick::abs(det.w - trk.w) / denom;
+    let of_heights = floats_pick::abs(det.h - trk.h) / denom;
     -(of_widths + of_heights)
 }
 
@@ -23,8 +23,8 @@ pub fn shape_v1(det: BoundingBox, trk: BoundingBox) -> f32
 pub fn exponent_v2(det: BoundingBox, trk: BoundingBox) -> f32
     ensures { λ r. ⌜ r ≡ Shape.exponentV2 det trk ⌝ }
 {
-    let of_widths = floats::abs(det.w - trk.w) / floats::max(det.w, trk.w);
-    let of_heights = floats::abs(det.h - trk.h) / floats::max(det.h, trk.h);
+    let of_widths = floats_pick::abs(det.w - trk.w) / floats_pick::max(det.w, trk.w);
+    let of_heights = floats_pick::abs(det.h - trk.h) / floats_pick::max(det.h, trk.h);
     -(of_widths + of_heights)
 }
 

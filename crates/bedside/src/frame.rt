@@ -3,7 +3,7 @@ use boost_tracker::Settings;
 use boost_tracker::State;
 use boost_tracker::UpdateAnswer;
 ghost use mathlib.Core.Path.{_≡_};
-ghost use Rattle.boost_tracker_table.specs.Settings.{new};
+ghost use Rattle.boost_tracker_settings.specs.Settings.{new};
 ghost use Rattle.boost_tracker_table.specs.Lent.{callWith};
 ghost use Rattle.boost_tracker_verdict.specs.Boxes.{boxesWith};
 ghost use Rattle.boost_tracker.specs.Frame.{memoryWith, updated};

@@ -7,7 +7,7 @@ mod pairs;
 
 ghost use mathlib.Core.Path.{_≡_};
 ghost use Rattle.floats.specs.Exponential as Exponential;
-ghost use Rattle.floats.specs.Pick as Pick;
+ghost use Rattle.floats_pick.specs.Pick as Pick;
 ghost use Rattle.floats.specs.Power as Power;
 ghost use Rattle.floats.specs.Root as Root;
 
@@ -16,7 +16,7 @@ ghost use Rattle.floats.specs.Root as Root;
 pub extern "C" fn bedside_max(a: f32, b: f32) -> f32
     ensures { λ r. ⌜ r ≡ Pick.larger a b ⌝ }
 {
-    floats::max(a, b)
+    floats_pick::max(a, b)
 }
 
 // The smaller of a and b.
@@ -24,7 +24,7 @@ pub extern "C" fn bedside_max(a: f32, b: f32) -> f32
 pub extern "C" fn bedside_min(a: f32, b: f32) -> f32
     ensures { λ r. ⌜ r ≡ Pick.smaller a b ⌝ }
 {
-    floats::min(a, b)
+    floats_pick::min(a, b)
 }
 
 // The root of x.

@@ -22,10 +22,10 @@ use Rattle.records.specs.TrackRecord.{trackBytes, bytesOfTrack}
 use Rattle.records.proofs.Laws.Bytes.{float-le}
 use Rattle.records.proofs.Laws.Lengths.{length-track}
 use Rattle.boost_tracker_table.specs.Table.{Track, blank}
-use Rattle.boost_tracker_table.specs.Record.{atMostOne, written}
-use Rattle.boost_tracker_table.specs.Emission.{emits, emitted, emittedInds, recordAt, bytesAt, emittedConfidences}
-use Rattle.boost_tracker_table.proofs.ConfidenceLaws.{emitted-confidence}
-use Rattle.boost_tracker_table.proofs.Laws.{emitted-many}
+use Rattle.boost_tracker_emission.specs.Record.{atMostOne, written}
+use Rattle.boost_tracker_emission.specs.Emission.{emits, emitted, emittedInds, recordAt, bytesAt, emittedConfidences}
+use Rattle.boost_tracker_emission.proofs.ConfidenceLaws.{emitted-confidence}
+use Rattle.boost_tracker_emission.proofs.Laws.{emitted-many}
 use Rattle.boost_tracker.specs.Cap.{confidencePlace, confidenceIn, cappedRecord, cappedOutput, confidenceAt, Archived}
 
 -- ---- what is known of a confidence that is put out: it has its field's form, and capped it is from 0 to 1

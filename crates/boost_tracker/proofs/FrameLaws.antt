@@ -19,13 +19,13 @@ use Rattle.records.specs.TrackRecord.{trackBytes}
 use Rattle.boost_tracker_verdict.specs.declared.refusal.Refusal.{Refusal}
 use Rattle.boost_tracker_verdict.specs.declared.refusal.Verdict.{Verdict}
 use Rattle.boost_tracker_verdict.specs.declared.refusal.Verdict.the-variants.{Accepted, Refused}
-use Rattle.boost_tracker_table.specs.declared.settings.Settings.{Settings}
+use Rattle.boost_tracker_settings.specs.declared.settings.Settings.{Settings}
 use Rattle.boost_tracker_verdict.specs.declared.sound.State.{State}
 use Rattle.boost_tracker_table.specs.Table.{Track, blank, capacity, placesIn, placed, tracks, young, retained, Laying, Retired, Emptied, labelsWhere, zeroFilled, labelsRetired, labelsEmptied}
 use Rattle.boost_tracker_table.specs.Lent.{Table, tableWith, placesOf, tracksIn, labelsIn, laidOver, holding, Call, callWith}
 use Rattle.boost_tracker_table.proofs.Laws.{tracks-many, lay-here, lay-tracks, lay-finished}
 use Rattle.boost_tracker_table.proofs.LabelLaws.{labels-finished, laid-places, holding-laid}
-use Rattle.boost_tracker_table.specs.Emission.{Emitted, emittedInds, bytesAt}
+use Rattle.boost_tracker_emission.specs.Emission.{Emitted, emittedInds, bytesAt}
 use Rattle.boost_tracker_verdict.specs.Boxes.{Boxes}
 use Rattle.boost_tracker_verdict.specs.Verdict.{boxesIn, verdict, whereAccepted}
 use Rattle.boost_tracker_verdict.specs.Ready.{Ready}

@@ -13,9 +13,9 @@ use Rattle.boost_tracker_verdict.specs.declared.refusal.Refusal.{Refusal}
 use Rattle.boost_tracker_verdict.specs.declared.refusal.Refusal.the-variants.{TableNotSound, TrackNotLabelled, TrackNotWorkable, SettingNotFinite, TooManyBoxes, TableFull, BadBox, BoxNotLabelled, TooManyFrames, OutputShort, WorkShort}
 use Rattle.boost_tracker_verdict.specs.declared.refusal.Verdict.{Verdict}
 use Rattle.boost_tracker_verdict.specs.declared.refusal.Verdict.the-variants.{Accepted, Refused}
-use Rattle.boost_tracker_table.specs.declared.settings.Settings.{Settings}
+use Rattle.boost_tracker_settings.specs.declared.settings.Settings.{Settings}
 use Rattle.boost_tracker_verdict.specs.declared.sound.State.{State}
-use Rattle.boost_tracker_table.specs.Settings.{withCapConfidence}
+use Rattle.boost_tracker_settings.specs.Settings.{withCapConfidence}
 use Rattle.boost_tracker_table.specs.Table.{Track, young, zeroFilled}
 use Rattle.boost_tracker_table.specs.Lent.{placesOf, tracksIn, labelsIn, holding, Call, callWith}
 use Rattle.boost_tracker_verdict.specs.Boxes.{Boxes}

@@ -13,9 +13,9 @@ use Rattle.labels.specs.Label.{labelAt}
 use Rattle.records.specs.Field.{littleEndian}
 use Rattle.records.specs.TrackRecord.{trackBytes}
 use Rattle.boost_tracker_table.specs.Table.{Track, blank, labelsWhere}
-use Rattle.boost_tracker_table.specs.Record.{recordOf, recordBytes}
-use Rattle.boost_tracker_table.specs.Emission.{emits, emitted, emittedInds, bytesAt}
-use Rattle.boost_tracker_table.proofs.Laws.{emitted-many}
+use Rattle.boost_tracker_emission.specs.Record.{recordOf, recordBytes}
+use Rattle.boost_tracker_emission.specs.Emission.{emits, emitted, emittedInds, bytesAt}
+use Rattle.boost_tracker_emission.proofs.Laws.{emitted-many}
 use Rattle.boost_tracker_table.proofs.LabelLaws.{labels-many}
 use Rattle.boost_tracker_definition.proofs.LabelFacts.{image-at, kept-below}
 use Rattle.boost_tracker.specs.Unlabelled.{bytesBefore}

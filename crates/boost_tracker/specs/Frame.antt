@@ -9,10 +9,10 @@ use Rattle.assoc.specs.Answers.{cleared}
 use Rattle.records.specs.TrackRecord.{trackBytes}
 use Rattle.boost_tracker_verdict.specs.declared.refusal.Verdict.{Verdict}
 use Rattle.boost_tracker_verdict.specs.declared.refusal.Verdict.the-variants.{Accepted}
-use Rattle.boost_tracker_table.specs.declared.settings.Settings.{Settings}
+use Rattle.boost_tracker_settings.specs.declared.settings.Settings.{Settings}
 use Rattle.boost_tracker_verdict.specs.declared.sound.State.{State}
 use Rattle.boost_tracker_table.specs.Lent.{Table, tableWith, tracksIn, labelsIn, holding, Call, callWith}
-use Rattle.boost_tracker_table.specs.Emission.{emittedInds, bytesAt}
+use Rattle.boost_tracker_emission.specs.Emission.{emittedInds, bytesAt}
 use Rattle.boost_tracker_verdict.specs.Boxes.{Boxes}
 use Rattle.boost_tracker_verdict.specs.Verdict.{verdict, whereAccepted}
 use Rattle.boost_tracker.specs.declared.frame.UpdateAnswer.{UpdateAnswer}

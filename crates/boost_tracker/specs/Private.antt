@@ -6,11 +6,11 @@ use lib.Ieee.{Float}
 use Rattle.laws.specs.Laid.{laid}
 use Rattle.records.specs.TrackRecord.{trackBytes}
 use Rattle.boost_tracker_verdict.specs.declared.refusal.Verdict.the-variants.{Accepted}
-use Rattle.boost_tracker_table.specs.declared.settings.Settings.{Settings}
+use Rattle.boost_tracker_settings.specs.declared.settings.Settings.{Settings}
 use Rattle.boost_tracker_verdict.specs.declared.sound.State.{State}
 use Rattle.boost_tracker_table.specs.Table.{Track, young, retained, labelsWhere}
 use Rattle.boost_tracker_table.specs.Lent.{Table, tableWith, tracksIn, labelsIn, holding, Call, callWith}
-use Rattle.boost_tracker_table.specs.Emission.{emitted, emittedInds, bytesAt}
+use Rattle.boost_tracker_emission.specs.Emission.{emitted, emittedInds, bytesAt}
 use Rattle.boost_tracker_steps.specs.declared.all_steps.Advanced.{Advanced}
 use Rattle.boost_tracker.specs.declared.frame.UpdateAnswer.{UpdateAnswer}
 

@@ -14,11 +14,11 @@ use Rattle.records.specs.declared.track_record.TrackRecord.{TrackRecord}
 use Rattle.records.specs.Field.{littleEndian, five}
 use Rattle.records.specs.TrackRecord.{trackBytes}
 use Rattle.boost_tracker_verdict.specs.declared.refusal.Verdict.the-variants.{Accepted}
-use Rattle.boost_tracker_table.specs.declared.settings.Settings.{Settings}
+use Rattle.boost_tracker_settings.specs.declared.settings.Settings.{Settings}
 use Rattle.boost_tracker_verdict.specs.declared.sound.State.{State}
 use Rattle.boost_tracker_table.specs.Table.{Track, placeFloats, placeCounters, floatsOf, countersOf, filledUp, zeroFilled}
 use Rattle.boost_tracker_table.specs.Lent.{placesOf, tracksIn, callWith}
-use Rattle.boost_tracker_table.specs.Record.{recordOf, written}
+use Rattle.boost_tracker_emission.specs.Record.{recordOf, written}
 use Rattle.boost_tracker_verdict.specs.Boxes.{Boxes}
 use Rattle.boost_tracker_verdict.specs.Verdict.{boxesIn}
 use Rattle.boost_tracker_definition.specs.Update.{Stages}

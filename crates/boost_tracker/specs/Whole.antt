@@ -12,7 +12,7 @@ use Rattle.laws.specs.Scan.{lowest}
 use Rattle.laws.specs.Every.{every}
 use Rattle.labels.specs.Label.{unlabelledAt, unlabelled}
 use Rattle.records.specs.TrackRecord.{trackBytes}
-use Rattle.boost_tracker_table.specs.declared.settings.Settings.{Settings}
+use Rattle.boost_tracker_settings.specs.declared.settings.Settings.{Settings}
 use Rattle.boost_tracker_verdict.specs.declared.sound.State.{State}
 use Rattle.boost_tracker_table.specs.Lent.{placesOf, tracksIn}
 use Rattle.boost_tracker_verdict.specs.Boxes.{Boxes}

@@ -1,7 +1,7 @@
 // A frame: its steps 1 to 7, and where it is accepted step 8, the output and the tracks that are retained.
+use boost_tracker_settings::Settings;
 use boost_tracker_steps::Advanced;
 use boost_tracker_steps::advance;
-use boost_tracker_table::Settings;
 use boost_tracker_verdict::State;
 use boost_tracker_verdict::Verdict;
 ghost use mathlib.Core.Path.{_≡_};
@@ -42,7 +42,7 @@ fn finish(
     let frame = state.frames + 1;
     let started = advanced.started;
     let all = state.count + started;
-    let emitted = boost_tracker_table::emit(
+    let emitted = boost_tracker_emission::emit(
         floats,
         counters,
         &labels[..all],

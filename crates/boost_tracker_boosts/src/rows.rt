@@ -3,7 +3,7 @@ ghost use mathlib.Core.Path.{_≡_};
 ghost use lib.ListN.{length, getD};
 ghost use lib.Ieee.{nan};
 ghost use Rattle.laws.specs.Fold.{fold};
-ghost use Rattle.floats.specs.Pick.{larger};
+ghost use Rattle.floats_pick.specs.Pick.{larger};
 
 // The largest of `start` and the row's cells, in this order.
 pub fn largest(start: f32, row: &[f32]) -> f32
@@ -12,7 +12,7 @@ pub fn largest(start: f32, row: &[f32]) -> f32
     let mut most = start;
     let mut j = 0;
     while j < row.len() {
-        most = floats::max(most, row[j]);
+        most = floats_pick::max(most, row[j]);
         j += 1;
     }
     most

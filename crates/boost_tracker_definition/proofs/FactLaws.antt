@@ -16,7 +16,7 @@ use Rattle.floats.specs.Single.{plusZero}
 use Rattle.strack.specs.Strack.{predict}
 use Rattle.strack.proofs.Laws.{update-accepted}
 use Rattle.boost_tracker_dlo.specs.declared.dlo.DloSettings.{DloSettings}
-use Rattle.boost_tracker_dlo.specs.MhDist.{det, getMhDistMatrix}
+use Rattle.boost_tracker_mh_dist.specs.MhDist.{det, getMhDistMatrix}
 use Rattle.boost_tracker_dlo.specs.Dlo.{similarity, coefficient, soft, varying, boosted, dloConfidenceBoost}
 use Rattle.boost_tracker_duo.specs.Duo.{boostCandidates, masked, duoConfidenceBoost}
 use Rattle.assoc_matching.specs.Matching.{Pair, pair, boxesOf, tracksOf}
@@ -24,7 +24,7 @@ use Rattle.assoc_assignment.specs.Account.{Accounted}
 use Rattle.assoc.specs.Association.{ious, stands}
 use Rattle.assoc.proofs.Theorem.{account, stands-alike}
 use Rattle.boost_tracker_verdict.specs.declared.refusal.Verdict.the-variants.{Accepted}
-use Rattle.boost_tracker_table.specs.declared.settings.Settings.{Settings}
+use Rattle.boost_tracker_settings.specs.declared.settings.Settings.{Settings}
 use Rattle.boost_tracker_verdict.specs.declared.sound.State.{State}
 use Rattle.boost_tracker_table.specs.Table.{Track, blank, young, retained, Emptied}
 use Rattle.boost_tracker_table.specs.Lent.{Table, placesOf, tracksIn, labelsIn, holding}

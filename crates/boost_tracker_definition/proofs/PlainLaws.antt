@@ -9,7 +9,7 @@ use lib.Ieee.{Float, nan}
 use Rattle.laws.specs.Tab.{tab, getD-any, indices}
 use Rattle.laws.specs.Fold.{fold, fold-ext, fold-list}
 use Rattle.laws.specs.Sieve.{sieve, sieve-at}
-use Rattle.boost_tracker_dlo.specs.MhDist.{det}
+use Rattle.boost_tracker_mh_dist.specs.MhDist.{det}
 use Rattle.assoc_matching.specs.Matching.{Pair, pair, boxesOf, tracksOf}
 use Rattle.boost_tracker_table.specs.Table.{Track, corrected}
 use Rattle.boost_tracker_definition.specs.Update.{remains, remainInds, detScores, matched, startedFrom, startOne, started}

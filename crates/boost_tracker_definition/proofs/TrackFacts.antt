@@ -20,7 +20,7 @@ use Rattle.strack.specs.declared.rect.Xyxy.{Xyxy}
 use Rattle.strack_filter.specs.KalmanFilter.{updatable}
 use Rattle.strack.specs.Strack.{predict, update}
 use Rattle.strack.proofs.Laws.{new-id, new-since, new-streak, new-age, predict-id, predict-since, predict-age, predict-streak-le, hit-id, hit-since, hit-streak, hit-age, update-accepted, update-refused}
-use Rattle.boost_tracker_dlo.specs.MhDist.{det}
+use Rattle.boost_tracker_mh_dist.specs.MhDist.{det}
 use Rattle.boost_tracker_verdict.specs.declared.sound.State.{State}
 use Rattle.boost_tracker_table.specs.Table.{Track, blank, corrected}
 use Rattle.boost_tracker_verdict.specs.Sound.{rising, countersIn, sound}

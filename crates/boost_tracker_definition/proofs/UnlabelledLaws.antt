@@ -9,12 +9,12 @@ use lib.Ieee.{Float}
 use borrow.Author.Tests.{eq-eqb}
 use Rattle.labels.specs.Label.{labelAt, sameLabel, always, alike}
 use Rattle.strack.specs.Strack.{predict}
-use Rattle.boost_tracker_dlo.specs.MhDist.{getMhDistMatrix}
+use Rattle.boost_tracker_mh_dist.specs.MhDist.{getMhDistMatrix}
 use Rattle.boost_tracker_dlo.proofs.Laws.{dlo-alike}
 use Rattle.assoc_assignment.specs.Assignment.{Assignment}
 use Rattle.assoc.specs.Unlabelled.{associateUnlabelled}
 use Rattle.assoc.proofs.UnlabelledLaws.{with-always, with-equal}
-use Rattle.boost_tracker_table.specs.declared.settings.Settings.{Settings}
+use Rattle.boost_tracker_settings.specs.declared.settings.Settings.{Settings}
 use Rattle.boost_tracker_verdict.specs.declared.sound.State.{State}
 use Rattle.boost_tracker_table.specs.Table.{Track}
 use Rattle.boost_tracker_verdict.specs.Boxes.{Boxes}

@@ -8,9 +8,9 @@ use Prim.Native.Nat.{ℕ, _+_, _-_, _*_, _/_, _≤_, _<_, max}
 use lib.ListN.{length, getD}
 use Rattle.labels.specs.Label.{labelAt, unlabelled, sameLabel}
 use Rattle.strack.specs.Strack as strack
-use Rattle.boost_tracker_dlo.specs.MhDist.{det}
+use Rattle.boost_tracker_mh_dist.specs.MhDist.{det}
 use Rattle.assoc_matching.specs.Matching.{Pair, pair}
-use Rattle.boost_tracker_table.specs.declared.settings.Settings.{Settings}
+use Rattle.boost_tracker_settings.specs.declared.settings.Settings.{Settings}
 use Rattle.boost_tracker_verdict.specs.declared.sound.State.{State}
 use Rattle.boost_tracker_table.specs.Table.{Track}
 use Rattle.boost_tracker_table.specs.Lent.{Table, tracksIn, labelsIn}

@@ -6,7 +6,7 @@ use mathlib.Core.List.{List, [], _∷_, map}
 use Prim.Native.Nat.{ℕ}
 use lib.Ieee.{Float, binary32, ofBits, toBits, isNan, add, sub, mul, div, lt, le, eq}
 use Rattle.floats.specs.Known.{f32}
-use Rattle.floats.specs.Pick.{larger, smaller}
+use Rattle.floats_pick.specs.Pick.{larger, smaller}
 use Rattle.floats.specs.Power.{powi}
 use Rattle.laws.specs.Tab.{tab}
 use Rattle.laws.specs.Fold.{fold}
@@ -20,17 +20,17 @@ use Rattle.laws.specs.Most.{most}
 use Rattle.labels.specs.Label.{sameLabel}
 use Rattle.strack.specs.Rect.{widthOf}
 use Rattle.strack.specs.Strack.{new as newTrack, predict, getState, confidence}
-use Rattle.boost_tracker_dlo.specs.MhDist.{reciprocal, mhDist as distance}
+use Rattle.boost_tracker_mh_dist.specs.MhDist.{reciprocal, mhDist as distance}
 use Rattle.boost_tracker_dlo.specs.Dlo.{maxS, coefficient, boosted, dloConfidenceBoost}
 use Rattle.boost_tracker_duo.specs.Duo.{minMhDist, isCandidate, boostCandidates, duoConfidenceBoost}
 use Rattle.assoc_matching.specs.Matching.{boxesOf, above, simple, simpleMatches, matchDetections}
 use Rattle.assoc_assignment.specs.Assignment.{unmatched, assignedBy}
 use Rattle.assoc.specs.Association.{stands, associateBy}
-use Rattle.boost_tracker_table.specs.declared.settings.Settings.{Settings}
+use Rattle.boost_tracker_settings.specs.declared.settings.Settings.{Settings}
 use Rattle.boost_tracker_verdict.specs.declared.sound.State.{State}
-use Rattle.boost_tracker_table.specs.Settings.{new}
+use Rattle.boost_tracker_settings.specs.Settings.{new}
 use Rattle.boost_tracker_table.specs.Table.{Track}
-use Rattle.boost_tracker_table.specs.Record.{recordOf}
+use Rattle.boost_tracker_emission.specs.Record.{recordOf}
 use Rattle.boost_tracker_verdict.specs.Boxes.{boxesWith}
 use Rattle.boost_tracker_definition.specs.Update.{Stages, xyxyOf, bboxes, scores, trks, confs, afterDlo, afterDuo, dlo, duo, remainInds, detBboxes, detScores, mhDist, detLabels, result, matched, started, stagesFrom, steps, updateBy, update, stateAfter, labelsStarted}
 

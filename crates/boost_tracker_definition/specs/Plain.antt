@@ -10,7 +10,7 @@ use Rattle.laws.specs.Tab.{tab}
 use Rattle.laws.specs.Fold.{fold}
 use Rattle.labels.specs.Label.{labelAt}
 use Rattle.strack.specs.Strack.{new}
-use Rattle.boost_tracker_dlo.specs.MhDist.{det}
+use Rattle.boost_tracker_mh_dist.specs.MhDist.{det}
 use Rattle.boost_tracker_table.specs.Table.{Track, corrected}
 
 -- ---- step 3

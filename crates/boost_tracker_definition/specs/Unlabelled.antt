@@ -9,10 +9,10 @@ use lib.ListN.{length}
 use lib.Ieee.{Float}
 use Rattle.labels.specs.Label.{labelAt, always}
 use Rattle.strack.specs.Strack.{predict}
-use Rattle.boost_tracker_dlo.specs.MhDist.{getMhDistMatrix}
+use Rattle.boost_tracker_mh_dist.specs.MhDist.{getMhDistMatrix}
 use Rattle.boost_tracker_dlo.specs.Dlo.{similarity, boosted}
 use Rattle.assoc.specs.Unlabelled.{associateUnlabelled}
-use Rattle.boost_tracker_table.specs.declared.settings.Settings.{Settings}
+use Rattle.boost_tracker_settings.specs.declared.settings.Settings.{Settings}
 use Rattle.boost_tracker_verdict.specs.declared.sound.State.{State}
 use Rattle.boost_tracker_table.specs.Table.{Track}
 use Rattle.boost_tracker_verdict.specs.Boxes.{Boxes}

@@ -15,20 +15,20 @@ use Rattle.labels.specs.Label.{labelAt, sameLabel, alike}
 use Rattle.strack.specs.declared.rect.Xyxy.{Xyxy}
 use Rattle.strack.specs.Rect.{getXyxy}
 use Rattle.strack.specs.Strack.{new, predict, getState, getConfidence}
-use Rattle.assoc.specs.declared.cost.AssociateParams.{AssociateParams}
+use Rattle.assoc_cost.specs.declared.cost.AssociateParams.{AssociateParams}
 use Rattle.boost_tracker_dlo.specs.declared.dlo.DloSettings.{DloSettings}
-use Rattle.boost_tracker_dlo.specs.MhDist.{det, getMhDistMatrix}
+use Rattle.boost_tracker_mh_dist.specs.MhDist.{det, getMhDistMatrix}
 use Rattle.boost_tracker_dlo.specs.Dlo.{dloConfidenceBoost}
 use Rattle.records.specs.BoxRecord.{boxValues}
 use Rattle.boost_tracker_duo.specs.Duo.{duoConfidenceBoost}
 use Rattle.assoc_matching.specs.Matching.{Pair}
 use Rattle.assoc_assignment.specs.Assignment.{Assignment}
 use Rattle.assoc.specs.Association.{associateBy}
-use Rattle.boost_tracker_table.specs.declared.settings.Settings.{Settings}
+use Rattle.boost_tracker_settings.specs.declared.settings.Settings.{Settings}
 use Rattle.boost_tracker_verdict.specs.declared.sound.State.{State}
 use Rattle.boost_tracker_table.specs.Table.{Track, blank, corrected, young, retained, labelsWhere}
-use Rattle.boost_tracker_table.specs.Record.{nineTenths}
-use Rattle.boost_tracker_table.specs.Emission.{emitted}
+use Rattle.boost_tracker_emission.specs.Record.{nineTenths}
+use Rattle.boost_tracker_emission.specs.Emission.{emitted}
 use Rattle.boost_tracker_verdict.specs.Boxes.{Boxes}
 use Rattle.boost_tracker_verdict.specs.Verdict.{boxesIn}
 

@@ -15,7 +15,7 @@ use Rattle.laws.specs.Fold.{fold-ext}
 use Rattle.laws.specs.Scan.{scan-ext, lowest}
 use Rattle.laws.specs.Grid.{grid, cellAt, grid-at}
 use Rattle.labels.specs.Label.{sameLabel, labelAt, alike, whereAlike}
-use Rattle.floats.specs.Pick.{larger}
+use Rattle.floats_pick.specs.Pick.{larger}
 use Rattle.floats.specs.Single.{plusZero as 0·0, one}
 use Rattle.assoc_similarity.specs.Overlap.{iouBatch, softBiouBatch}
 use Rattle.assoc_similarity.specs.Shape.{shapeSimilarityV1, shapeSimilarityV2}

@@ -2,5 +2,4 @@
 pub mod Laws
 pub mod Verdicts
 pub mod RowLaws
-pub mod MhLaws
 pub mod DloLaws

@@ -11,7 +11,7 @@ use Rattle.laws.specs.Tab.{tab}
 use Rattle.laws.specs.Fold.{fold}
 use Rattle.laws.specs.Scan.{lowest}
 use Rattle.labels.specs.Label.{whereAlike}
-use Rattle.floats.specs.Pick.{larger}
+use Rattle.floats_pick.specs.Pick.{larger}
 use Rattle.floats.specs.Power.{powf15}
 use Rattle.floats.specs.Single.{_⊕_, _⊖_, _⊗_, _⊘_, plusZero, one}
 use Rattle.assoc_similarity.specs.Overlap.{iouBatch, softBiouBatch}

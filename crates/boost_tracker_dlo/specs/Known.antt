@@ -7,9 +7,9 @@ use lib.Ieee.{ofBits, toBits, ofInt, isNan, add, sub, mul, div, sum, neg, lt, le
 use Rattle.laws.specs.Tab.{tab}
 use Rattle.laws.specs.Fold.{fold}
 use Rattle.laws.specs.Scan.{scan}
-use Rattle.floats.specs.Known.{f32, bits}
+use Rattle.floats.specs.Known.{bits}
 use Rattle.floats.specs.Single.{_⊖_, one}
-use Rattle.floats.specs.Pick.{larger, smaller, abs}
+use Rattle.floats_pick.specs.Pick.{larger, smaller, abs}
 use Rattle.floats.specs.Root.{root}
 use Rattle.floats.specs.Power.{powf15}
 use Rattle.floats.specs.Exponential.{exp}
@@ -18,7 +18,6 @@ use Rattle.assoc_similarity.specs.Shape.{shapeV1, shapeV2}
 use Rattle.assoc_similarity.specs.Mahalanobis.{normalized, similarity as shared}
 use Rattle.boost_tracker_boosts.specs.Examples.{whole, box, tenth, detThresh}
 use Rattle.boost_tracker_dlo.specs.declared.dlo.DloSettings.{DloSettings}
-use Rattle.boost_tracker_dlo.specs.MhDist.{reciprocal}
 use Rattle.boost_tracker_dlo.specs.Dlo.{similarity, alpha, alphaVt, threshold, maxS, coefficient, soft, shouldBoost, varying, boosted, dloConfidenceBoost}
 
 -- with dlo_boost_coef 0.65
@@ -34,8 +33,6 @@ rows =
     -- 1 - 0.65, (0.95 - 0.8) / 20, and the thresholds from 0.95 down to 0.8
     (map bits ((one ⊖ alpha) ∷ alphaVt ∷ []), 0x3eb3_3334 ∷ 0x3bf5_c28d ∷ [])
     ∷ (map bits (map threshold (0 ∷ 1 ∷ 2 ∷ 22 ∷ [])), 0x3f73_3333 ∷ 0x3f73_3333 ∷ 0x3f71_47ae ∷ 0x3f4c_cccd ∷ [])
-    -- 1e10 at 1e-10 and below
-    ∷ (map bits (map reciprocal (whole 0 ∷ f32 0x2edb_e6ff ∷ whole 10011 ∷ [])), 0x5015_02f9 ∷ 0x5015_02f9 ∷ 0x38d1_7c1a ∷ [])
     -- a boost by 0.65, one by 0.65 * 0.1 + 0.35 * 1, one to 0.6 + 1e-5, the last two together, the first by the rich similarity, and none without tracks
     ∷ (dlo true (settings false false false) 1, 0x3f26_6666 ∷ [])
     ∷ (dlo true (settings false true false) 1, 0x3ed4_7ae2 ∷ [])
@@ -49,6 +46,6 @@ rows =
     ∷ []
 
 pub known : map (λ (row : List ℕ × List ℕ). row .0) rows ≡ map (λ (row : List ℕ × List ℕ). row .1) rows
-unfolding tab fold scan larger smaller abs root powf15 exp intersection union ratio overlap softBiou shapeV1 shapeV2 normalized shared reciprocal similarity threshold maxS coefficient soft
+unfolding tab fold scan larger smaller abs root powf15 exp intersection union ratio overlap softBiou shapeV1 shapeV2 normalized shared similarity threshold maxS coefficient soft
     shouldBoost varying boosted dloConfidenceBoost ofBits toBits ofInt isNan add sub mul div sum neg lt le eq round units odd size climb span ofFields
 known = refl

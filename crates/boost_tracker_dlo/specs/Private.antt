@@ -9,9 +9,8 @@ use lib.Ieee.{Float, nan, lt, binary32, ofBits}
 use Rattle.laws.specs.Fold.{fold}
 use Rattle.laws.specs.Scan.{lowest}
 use Rattle.labels.specs.Label.{sameLabel, labelAt}
-use Rattle.floats.specs.Pick.{larger}
+use Rattle.floats_pick.specs.Pick.{larger}
 use Rattle.floats.specs.Power.{powf15}
-use Rattle.strack_filter.specs.declared.kalman_filter.DetectBox.{DetectBox}
 use Rattle.floats.specs.Single.{_⊕_, _⊖_, _⊗_, _⊘_, plusZero, one}
 use Rattle.assoc_similarity.specs.Overlap.{iouBatch, softBiouBatch}
 use Rattle.laws.specs.Grid.{grid}
@@ -19,27 +18,6 @@ use Rattle.assoc_similarity.specs.Shape.{shapeSimilarityV1, shapeSimilarityV2}
 use Rattle.assoc_similarity.specs.Mahalanobis.{mhDistSimilarity}
 use Rattle.boost_tracker_dlo.specs.declared.dlo.DloSettings.{DloSettings}
 use Rattle.boost_tracker_dlo.specs.Dlo.{alpha, threshold}
-
--- ---- get_mh_dist_matrix
-
-abbrev pub part : Float → Float → Float → Float
-part z x sigma = (z ⊖ x) ⊗ (z ⊖ x) ⊗ sigma
-
--- the distance of a state and track j, written out
-abbrev pub distanceTo : DetectBox → List Float → List Float → ℕ → Float
-distanceTo z x sigma j =
-    plusZero ⊕ part (z .x) (getD x (j * 4) nan) (getD sigma (j * 4) nan)
-    ⊕ part (z .y) (getD x (j * 4 + 1) nan) (getD sigma (j * 4 + 1) nan)
-    ⊕ part (z .h) (getD x (j * 4 + 2) nan) (getD sigma (j * 4 + 2) nan)
-    ⊕ part (z .r) (getD x (j * 4 + 3) nan) (getD sigma (j * 4 + 3) nan)
-
-pub record Stated (boxes tracks detections x sigma out : ℕ) : Type 0 where
-  pub detections-fit : detections ≡ boxes * 4
-  pub x-fits : x ≡ tracks * 4
-  pub sigma-fits : sigma ≡ tracks * 4
-  pub room : boxes * tracks ≤ out
-
--- ---- dlo_confidence_boost
 
 abbrev pub shapeRow : Bool → List Float → List Float → ℕ → Float
 shapeRow corrected det trks j = cond corrected (shapeSimilarityV2 det trks 0 j) (shapeSimilarityV1 det trks 0 j)

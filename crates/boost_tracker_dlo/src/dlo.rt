@@ -95,7 +95,7 @@ fn threshold(since: u32) -> f32
 {
     let tsu = std::num::nearest_u32_to_f32(less_one(since));
     let alpha_vt = (0.95 - 0.8) / 20.0;
-    floats::max(0.95 - tsu * alpha_vt, 0.8)
+    floats_pick::max(0.95 - tsu * alpha_vt, 0.8)
 }
 
 // saturating_sub(1)
@@ -124,7 +124,7 @@ fn soft_score(score: f32, max_s: f32) -> f32
     ensures { λ r. ⌜ r ≡ Private.softScore score «max_s» ⌝ }
 {
     let alpha = 0.65;
-    floats::max(
+    floats_pick::max(
         score,
         alpha * score + (1.0 - alpha) * floats::powf_1_5(max_s),
     )
@@ -146,7 +146,7 @@ fn vary(varying: bool, thresh: f32, row: &[f32], since: &[u32], score: f32) -> f
     if varying {
         let j = first_above(row, since);
         if j < row.len() {
-            return floats::max(score, thresh + 1e-5);
+            return floats_pick::max(score, thresh + 1e-5);
         }
         return score;
     }
@@ -160,7 +160,7 @@ fn row_score(q: DloSettings, row: &[f32], since: &[u32], score: f32) -> f32
     if q.soft | q.varying {
         return vary(q.varying, q.thresh, row, since, soften(q.soft, row, score));
     }
-    floats::max(score, largest(0.0, row) * q.coef)
+    floats_pick::max(score, largest(0.0, row) * q.coef)
 }
 
 // ---- all boxes

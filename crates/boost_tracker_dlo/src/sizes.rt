@@ -1,4 +1,4 @@
-// The verdict on a call, from its sides and the lengths of its slices.
+// The verdict on a DLO boost, from its sides and the lengths of its slices.
 use boost_tracker_boosts::of_boost;
 use boost_tracker_boosts::too_many;
 use refusals::Refusal;
@@ -7,29 +7,6 @@ ghost use mathlib.Core.Path.{_≡_};
 ghost use Prim.Native.Nat.{_≤_};
 ghost use Rattle.boost_tracker_dlo.specs.Sizes as Sizes;
 
-// The verdict on a matrix of distances.
-pub(crate) fn of_states(
-    boxes: usize,
-    tracks: usize,
-    detections: usize,
-    x: usize,
-    sigma: usize,
-    out: usize,
-) -> Verdict
-    ensures { λ r. ⌜ r ≡ Sizes.ofStates boxes tracks detections x sigma out ⌝ }
-{
-    if too_many(boxes, tracks) {
-        return Verdict::Refused(Refusal::TooMany);
-    }
-    if (detections != boxes * 4) | (x != tracks * 4) | (sigma != tracks * 4) {
-        return Verdict::Refused(Refusal::OtherSize);
-    }
-    if out < boxes * tracks {
-        return Verdict::Refused(Refusal::TooShort);
-    }
-    Verdict::Accepted
-}
-
 fn other_tracks(tracks: usize, corners: usize, confidences: usize, since: usize) -> bool
     requires { ⌜ tracks ≤ 255 ⌝ }
     ensures { λ r. ⌜ r ≡ Sizes.otherTracks tracks corners confidences since ⌝ }
@@ -37,7 +14,6 @@ fn other_tracks(tracks: usize, corners: usize, confidences: usize, since: usize)
     (corners != tracks * 4) | (confidences != tracks) | (since != tracks)
 }
 
-// The verdict on a DLO boost.
 pub(crate) fn of_dlo(
     boxes: usize,
     tracks: usize,

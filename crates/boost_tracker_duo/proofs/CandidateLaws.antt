@@ -22,7 +22,7 @@ use Rattle.laws.specs.Count.{bit}
 use Rattle.laws.specs.Occurs.{occurs, occurs-sieve, occurs-indices, occurs-apart, occurs-below}
 use Rattle.laws.specs.Elem.{elem, elem-append}
 use Rattle.laws.specs.Picked.{fold-picked, foldl-image, sieve-sieve, sieve-image, picked-ext, elem-picked, elem-image, elem-either}
-use Rattle.floats.specs.Pick.{larger}
+use Rattle.floats_pick.specs.Pick.{larger}
 use Rattle.floats.specs.Single.{_⊕_, _⊖_, one}
 use Rattle.assoc_similarity.specs.Overlap.{iouBatch}
 use Rattle.boost_tracker_boosts.proofs.OneRow.{one-iou}

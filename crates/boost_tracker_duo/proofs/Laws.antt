@@ -6,7 +6,7 @@ use lib.Ieee.{Float, nan}
 use Rattle.laws.specs.Fold.{fold-ext}
 use Rattle.laws.specs.Grid.{grid, cellAt, grid-at}
 use Rattle.laws.specs.Picked.{picked-ext}
-use Rattle.floats.specs.Pick.{smaller}
+use Rattle.floats_pick.specs.Pick.{smaller}
 use Rattle.boost_tracker_duo.specs.Duo.{maxF32, minMhDist, isCandidate, boostCandidates, duoConfidenceBoost}
 
 candidates-ext : (f g : ℕ → ℕ → Float) (thresh : Float) (boxes tracks : ℕ) (scores : List Float) → ((i j : ℕ) → i < boxes → j < tracks → f i j ≡ g i j)

@@ -10,7 +10,7 @@ use Rattle.laws.specs.Tab.{tab, indices}
 use Rattle.laws.specs.Fold.{fold}
 use Rattle.laws.specs.Sieve.{sieve}
 use Rattle.laws.specs.Elem.{elem}
-use Rattle.floats.specs.Pick.{larger, smaller}
+use Rattle.floats_pick.specs.Pick.{larger, smaller}
 use Rattle.floats.specs.Single.{_⊕_, _⊖_, one}
 use Rattle.assoc_similarity.specs.Overlap.{iouBatch}
 

@@ -10,7 +10,7 @@ use Rattle.laws.specs.Fold.{fold}
 use Rattle.laws.specs.Sieve.{sieve}
 use Rattle.laws.specs.Elem.{elem}
 use Rattle.floats.specs.Known.{f32, bits}
-use Rattle.floats.specs.Pick.{larger, smaller}
+use Rattle.floats_pick.specs.Pick.{larger, smaller}
 use Rattle.assoc_similarity.specs.Overlap.{intersection, union, ratio, overlap}
 use Rattle.boost_tracker_boosts.specs.Examples.{whole, box, tenth, detThresh}
 use Rattle.boost_tracker_duo.specs.Duo.{minMhDist, isCandidate, boostCandidates, bdiou, bdiouMax, remaining, args, tmp, argsSet, argsTmp, confMax, isMost, remainingBoxes, masked, duoConfidenceBoost}

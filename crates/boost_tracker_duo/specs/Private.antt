@@ -8,7 +8,7 @@ use lib.ListN.{getD, length, set}
 use lib.Ieee.{Float, nan, lt, le, eq}
 use Rattle.laws.specs.Fold.{fold}
 use Rattle.laws.specs.Packed.{packed}
-use Rattle.floats.specs.Pick.{larger}
+use Rattle.floats_pick.specs.Pick.{larger}
 use Rattle.floats.specs.Single.{_⊖_, one}
 use Rattle.assoc_similarity.specs.Overlap.{iouBatch}
 use Rattle.boost_tracker_duo.specs.Duo.{iouLimit, negInfinity, boostCandidates, masked}

@@ -13,7 +13,7 @@ ghost use Rattle.laws.specs.Fold.{fold};
 ghost use Rattle.laws.specs.Grid.{cellAt};
 ghost use Rattle.laws.specs.Over.{Pushed};
 ghost use Rattle.laws.specs.Collecting.{Push};
-ghost use Rattle.floats.specs.Pick.{smaller};
+ghost use Rattle.floats_pick.specs.Pick.{smaller};
 ghost use Rattle.boost_tracker_boosts.specs.Sizes.{ofBoost, boostedBy};
 ghost use Rattle.boost_tracker_duo.specs.Duo as Duo;
 ghost use Rattle.boost_tracker_duo.specs.Private as Private;
@@ -33,7 +33,7 @@ fn min_mh_dist(distance: &[f32], at: usize, tracks: usize) -> f32
     let mut least = f32::from_bits(0x7f7f_ffff);
     let mut j = 0;
     while j < tracks {
-        least = floats::min(least, distance[at + j]);
+        least = floats_pick::min(least, distance[at + j]);
         j += 1;
     }
     least
@@ -154,7 +154,7 @@ fn conf_with(most: f32, overlap: f32, max: f32, score: f32) -> f32
 {
     if overlap > IOU_LIMIT {
         if max > IOU_LIMIT {
-            return floats::max(most, score);
+            return floats_pick::max(most, score);
         }
         return most;
     }
@@ -191,7 +191,7 @@ fn is_most_in(
     bdiou_row(bboxes, i, row);
     let idx = candidates[i];
     let score = scores[idx];
-    score == floats::max(conf_row(row, max, candidates, scores), score)
+    score == floats_pick::max(conf_row(row, max, candidates, scores), score)
 }
 
 fn is_most(bboxes: &[f32], max: &[f32], candidates: &[usize], scores: &[f32], i: usize) -> bool

@@ -18,7 +18,7 @@ use Rattle.laws.specs.Over.{over}
 use Rattle.labels.specs.Label.{labelAt}
 use Rattle.strack.specs.declared.rect.Xyxy.{Xyxy}
 use Rattle.strack.specs.Strack.{new}
-use Rattle.boost_tracker_dlo.specs.MhDist.{det}
+use Rattle.boost_tracker_mh_dist.specs.MhDist.{det}
 use Rattle.boost_tracker_table.specs.Table.{Track, capacity, placesIn, tracks, corrected, pushed, Laying}
 use Rattle.boost_tracker_table.proofs.Laws.{low-room, tracks-many, lay-here, lay-lengths, lay-next, pushed-room, laid-table}
 use Rattle.refusals.specs.declared.refusal.Refusal.the-variants.{OtherSize, TooShort}

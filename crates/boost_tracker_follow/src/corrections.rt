@@ -11,7 +11,7 @@ ghost use lib.Dec.{leb};
 ghost use lib.ListN.{length, getD};
 ghost use Rattle.laws.specs.Scan.{lowest};
 ghost use Rattle.laws.specs.Splice.{splice};
-ghost use Rattle.boost_tracker_dlo.specs.MhDist.{det};
+ghost use Rattle.boost_tracker_mh_dist.specs.MhDist.{det};
 ghost use Rattle.boost_tracker_table.specs.Table as Table;
 ghost use Rattle.boost_tracker_table.specs.Table.{tracks, Laying};
 ghost use Rattle.boost_tracker_table.specs.Lent.{tableWith, callWith};

@@ -11,7 +11,7 @@ use Rattle.laws.specs.Tab.{tab, length-tab, tab-add}
 use Rattle.laws.specs.Every.{every}
 use Rattle.laws.specs.Occurs.{occurs, occurs-append, occurs-counted}
 use Rattle.records.specs.declared.box_record.BoxRecord.{BoxRecord}
-use Rattle.boost_tracker_table.specs.declared.settings.Settings.{Settings}
+use Rattle.boost_tracker_settings.specs.declared.settings.Settings.{Settings}
 use Rattle.boost_tracker_table.specs.Table.{placed, tracks}
 use Rattle.boost_tracker_table.specs.Lent.{Table, placesOf, tracksIn, callWith}
 use Rattle.boost_tracker_table.specs.Lent as lent

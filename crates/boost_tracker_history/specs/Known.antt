@@ -17,8 +17,8 @@ use Rattle.strack.specs.Strack.{new as newTrack, predict}
 use Rattle.assoc.specs.Association.{associateBy}
 use Rattle.boost_tracker_duo.specs.Duo.{duoConfidenceBoost}
 use Rattle.boost_tracker_dlo.specs.Dlo.{dloConfidenceBoost}
-use Rattle.boost_tracker_table.specs.declared.settings.Settings.{Settings}
-use Rattle.boost_tracker_table.specs.Settings.{new}
+use Rattle.boost_tracker_settings.specs.declared.settings.Settings.{Settings}
+use Rattle.boost_tracker_settings.specs.Settings.{new}
 use Rattle.boost_tracker_table.specs.Table.{placeFloats, placeCounters, tracks, trackAt, filledUp, labelsWhere, zeroFilled}
 use Rattle.boost_tracker_table.specs.Lent.{tableWith}
 use Rattle.boost_tracker_verdict.specs.declared.refusal.Verdict.the-variants.{Accepted}

@@ -22,7 +22,7 @@ use Rattle.assoc_assignment.specs.Assignment.{Assignment}
 use Rattle.boost_tracker_verdict.specs.declared.refusal.Refusal.{Refusal}
 use Rattle.boost_tracker_verdict.specs.declared.refusal.Verdict.{Verdict}
 use Rattle.boost_tracker_verdict.specs.declared.refusal.Verdict.the-variants.{Accepted, Refused}
-use Rattle.boost_tracker_table.specs.declared.settings.Settings.{Settings}
+use Rattle.boost_tracker_settings.specs.declared.settings.Settings.{Settings}
 use Rattle.boost_tracker_verdict.specs.declared.sound.State.{State}
 use Rattle.boost_tracker_table.specs.Table.{Track, blank, tracks, Laying}
 use Rattle.boost_tracker_table.specs.Lent.{Table, tableWith, tracksIn, laidOver, Call, callWith}

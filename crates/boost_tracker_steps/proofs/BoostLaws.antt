@@ -17,16 +17,18 @@ use Rattle.refusals.specs.declared.refusal.Verdict.{Verdict}
 use Rattle.refusals.specs.declared.refusal.Refusal.{Refusal}
 use Rattle.refusals.specs.declared.refusal.Verdict.the-variants.{Accepted, Refused}
 use Rattle.assoc_similarity.specs.Sizes.{after}
-use Rattle.boost_tracker_dlo.specs.MhDist as MhDist
-use Rattle.boost_tracker_dlo.specs.MhDist.{row, reciprocals, z, getMhDistMatrix}
+use Rattle.boost_tracker_mh_dist.specs.MhDist as MhDist
+use Rattle.boost_tracker_mh_dist.specs.MhDist.{row, reciprocals, z, getMhDistMatrix}
 use Rattle.boost_tracker_dlo.specs.Dlo.{similarity, boosted, dloConfidenceBoost}
-use Rattle.boost_tracker_dlo.specs.Sizes.{ofStates, ofDlo}
-use Rattle.boost_tracker_dlo.proofs.Laws.{mh-gathered, dlo-over}
+use Rattle.boost_tracker_mh_dist.specs.Sizes.{ofStates}
+use Rattle.boost_tracker_dlo.specs.Sizes.{ofDlo}
+use Rattle.boost_tracker_mh_dist.proofs.Laws.{mh-gathered}
+use Rattle.boost_tracker_dlo.proofs.Laws.{dlo-over}
 use Rattle.boost_tracker_duo.specs.Duo.{duoConfidenceBoost}
 use Rattle.boost_tracker_boosts.specs.Sizes.{ofBoost, boostedBy}
 use Rattle.boost_tracker_duo.proofs.Laws.{duo-over}
 use Rattle.boost_tracker_dlo.specs.declared.dlo.DloSettings.{DloSettings}
-use Rattle.boost_tracker_table.specs.declared.settings.Settings.{Settings}
+use Rattle.boost_tracker_settings.specs.declared.settings.Settings.{Settings}
 use Rattle.boost_tracker_table.specs.Table.{Track}
 use Rattle.boost_tracker_table.specs.Lent.{Call, callWith}
 use Rattle.boost_tracker_definition.specs.Update.{trackerAt, dloSettings, dlo, duo, afterDlo, afterDuo}

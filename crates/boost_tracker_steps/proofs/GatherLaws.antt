@@ -9,7 +9,7 @@ use Rattle.laws.specs.Laid.{rows}
 use Rattle.laws.specs.Packed.{packed, packed-whole}
 use Rattle.strack.specs.Strack.{getState, getConfidence}
 use Rattle.boost_tracker_table.specs.Table.{Track, blank}
-use Rattle.boost_tracker_table.specs.Record.{nineTenths}
+use Rattle.boost_tracker_emission.specs.Record.{nineTenths}
 use Rattle.boost_tracker_verdict.specs.Verdict.{boxesIn}
 use Rattle.boost_tracker_steps.specs.declared.gather.RowOf.{RowOf}
 use Rattle.boost_tracker_steps.specs.declared.gather.RowOf.the-variants as row-of

@@ -12,7 +12,7 @@ use Rattle.laws.specs.Grid.{grid, grid-front}
 use Rattle.refusals.specs.declared.refusal.Refusal.{Refusal}
 use Rattle.refusals.specs.declared.refusal.Verdict.{Verdict}
 use Rattle.refusals.specs.declared.refusal.Verdict.the-variants as verdict
-use Rattle.assoc.specs.declared.cost.AssociateParams.{AssociateParams}
+use Rattle.assoc_cost.specs.declared.cost.AssociateParams.{AssociateParams}
 use Rattle.refusals.proofs.Laws.{number-some}
 use Rattle.assoc_assignment.specs.declared.assignment.AssignmentCounts.{AssignmentCounts}
 use Rattle.assoc_assignment.specs.declared.assignment.AssignmentAnswer.{AssignmentAnswer}
@@ -22,10 +22,11 @@ use Rattle.assoc_matching.specs.Answers as Matching
 use Rattle.assoc_assignment.specs.Answers as Answers
 use Rattle.assoc_assignment.specs.Answers.{Lists, roomWith, roomOf, assignmentCounts, assignmentNumber, assignmentValues}
 use Rattle.assoc.specs.Association.{associate}
-use Rattle.assoc.specs.Answers.{Lent, lentAfter, withinVerdict, withinCall}
+use Rattle.assoc.specs.Answers.{Lent, lentAfter, withinCall}
+use Rattle.assoc_verdict.specs.Verdict.{withinVerdict}
 use Rattle.assoc.proofs.EndLaws.{within-accepted}
-use Rattle.boost_tracker_dlo.specs.MhDist.{getMhDistMatrix}
-use Rattle.boost_tracker_table.specs.declared.settings.Settings.{Settings}
+use Rattle.boost_tracker_mh_dist.specs.MhDist.{getMhDistMatrix}
+use Rattle.boost_tracker_settings.specs.declared.settings.Settings.{Settings}
 use Rattle.boost_tracker_table.specs.Table.{Track}
 use Rattle.boost_tracker_table.specs.Lent.{Call, callWith}
 use Rattle.boost_tracker_definition.specs.Update.{trackerAt, params, mhDist, result}

@@ -19,7 +19,7 @@ use Rattle.assoc_assignment.specs.Answers.{Lists, listed, assignmentCounts, ass
 use Rattle.assoc.specs.Answers as Association
 use Rattle.assoc.specs.Answers.{cleared}
 use Rattle.assoc.proofs.Theorem.{account as accounted}
-use Rattle.boost_tracker_table.specs.declared.settings.Settings.{Settings}
+use Rattle.boost_tracker_settings.specs.declared.settings.Settings.{Settings}
 use Rattle.boost_tracker_table.specs.Table.{Track, placesIn, tracks}
 use Rattle.boost_tracker_table.specs.Lent.{Table, tableWith, Call, callWith}
 use Rattle.boost_tracker_table.proofs.Laws.{tracks-many}

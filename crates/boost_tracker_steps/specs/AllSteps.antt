@@ -7,7 +7,7 @@ use Rattle.assoc_matching.specs.Answers.{zeroed}
 use Rattle.assoc.specs.Answers.{cleared}
 use Rattle.boost_tracker_verdict.specs.declared.refusal.Verdict.{Verdict}
 use Rattle.boost_tracker_verdict.specs.declared.refusal.Verdict.the-variants.{Accepted}
-use Rattle.boost_tracker_table.specs.declared.settings.Settings.{Settings}
+use Rattle.boost_tracker_settings.specs.declared.settings.Settings.{Settings}
 use Rattle.boost_tracker_verdict.specs.declared.sound.State.{State}
 use Rattle.boost_tracker_table.specs.Lent.{Table, tableWith, tracksIn, labelsIn, laidOver, Call, callWith}
 use Rattle.boost_tracker_verdict.specs.Boxes.{Boxes}

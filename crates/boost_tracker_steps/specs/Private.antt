@@ -7,7 +7,7 @@ use lib.Ieee.{Float}
 use Rattle.laws.specs.Laid.{laid}
 use Rattle.labels.specs.Label.{sameLabel}
 use Rattle.strack.specs.Strack.{getState, getKfState, getKfCovarianceDiag}
-use Rattle.boost_tracker_dlo.specs.MhDist.{row, reciprocals}
+use Rattle.boost_tracker_mh_dist.specs.MhDist.{row, reciprocals}
 use Rattle.refusals.specs.declared.refusal.Verdict.{Verdict}
 use Rattle.refusals.specs.declared.refusal.Verdict.the-variants.{Accepted}
 use Rattle.assoc_assignment.specs.declared.assignment.AssignmentAnswer.{AssignmentAnswer}
@@ -16,7 +16,7 @@ use Rattle.assoc_matching.specs.Answers.{zeroed}
 use Rattle.assoc_assignment.specs.Answers.{assignmentCounts}
 use Rattle.assoc.specs.Answers.{cleared}
 use Rattle.assoc_assignment.specs.Assignment.{Assignment}
-use Rattle.boost_tracker_table.specs.declared.settings.Settings.{Settings}
+use Rattle.boost_tracker_settings.specs.declared.settings.Settings.{Settings}
 use Rattle.boost_tracker_table.specs.Table.{Track, capacity, placesIn}
 use Rattle.boost_tracker_table.specs.Lent.{tracksIn, labelsIn, laidOver, Call, callWith}
 use Rattle.boost_tracker_verdict.specs.Boxes.{Boxes}

@@ -5,7 +5,7 @@ use crate::settle::refused_by;
 use crate::settle::retain;
 use crate::settle::settle;
 use assoc::AssignmentAnswer;
-use boost_tracker_table::Settings;
+use boost_tracker_settings::Settings;
 use boost_tracker_verdict::Refusal;
 use boost_tracker_verdict::State;
 use boost_tracker_verdict::Verdict;

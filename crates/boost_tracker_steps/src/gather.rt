@@ -1,5 +1,5 @@
 // What the steps of a frame read of its boxes and of the predicted tracks, in flat lists.
-use boost_tracker_dlo::sigma_inv;
+use boost_tracker_mh_dist::sigma_inv;
 use boost_tracker_table::load;
 use records::BOX_VALUES;
 use strack::rect::Rect;
@@ -10,7 +10,7 @@ ghost use mathlib.Core.Path.{_≡_};
 ghost use Prim.Native.Nat.{_+_, _*_, _≤_};
 ghost use lib.ListN.{length};
 ghost use Rattle.laws.specs.Packed.{packed};
-ghost use Rattle.boost_tracker_dlo.specs.MhDist.{row};
+ghost use Rattle.boost_tracker_mh_dist.specs.MhDist.{row};
 ghost use Rattle.records.specs.BoxRecord.{boxValues};
 ghost use Rattle.boost_tracker_table.specs.Table.{capacity, tracks};
 ghost use Rattle.boost_tracker_verdict.specs.Verdict.{boxesIn};

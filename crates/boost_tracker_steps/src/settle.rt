@@ -7,7 +7,7 @@ use assoc::AssignmentAnswer;
 use assoc::AssociateParams;
 use assoc::Refusal;
 use assoc::Verdict;
-use boost_tracker_table::Settings;
+use boost_tracker_settings::Settings;
 ghost use mathlib.Core.Path.{_≡_};
 ghost use mathlib.Core.Bool.{cond};
 ghost use Prim.Native.Nat.{_+_, _*_, _≤_, _<_};

@@ -4,12 +4,11 @@ use mathlib.Core.List.{List, [], _∷_, _++_}
 use Prim.Native.Nat.{ℕ, zero, suc, _+_, _-_, _*_, _≤_, _<_, min}
 use native.Mathlib.Nat.{le-trans, min-eq-left, mul-le-mul-right}
 use native.Mathlib.Omega.{arith}
-use lib.ListN.{length, length-append, length-drop, length-map, getD, set, take, drop, replicate, length-replicate, drop-of-length-le, List·getD-eq-default}
+use lib.ListN.{length, length-append, length-drop, getD, set, take, drop, replicate, length-replicate, drop-of-length-le, List·getD-eq-default}
 use lib.Seq.{drop-at, drop-cons, length-take-le, take-all}
 use lib.Ieee.{Float, nan}
 use Rattle.laws.specs.Tab.{tab, length-tab, tab-at, tab-of}
 use Rattle.laws.specs.Sieve.{sieve-few}
-use Rattle.laws.specs.Picked.{sieve-places}
 use Rattle.laws.specs.Splice.{splice}
 use Rattle.laws.specs.Laid.{rows, length-rows, laid, laid-none, laid-more, laid-rest, laid-at, length-laid}
 use Rattle.laws.specs.Over.{over}
@@ -17,7 +16,6 @@ use Rattle.laws.specs.Records.{laid-here, laid-set, laid-laid}
 use Rattle.floats.specs.Single as single
 use Rattle.boost_tracker_table.specs.Table.{placeFloats, placeCounters, Room, Track, trackOf, trackAt, floatsOf, countersOf, blank, capacity, placesIn, placed, tracks, pushed, young, retained, Laying, Retired, filledUp, Emptied, zeroFilled}
 use Rattle.boost_tracker_table.specs.Lent.{tableWith, laidOver, holding}
-use Rattle.boost_tracker_table.specs.Emission.{emits, emitted, emittedInds}
 
 -- ---- how many
 
@@ -229,11 +227,3 @@ laid-table l labels w e = rw (w .floats, w .counters, e)
 pub held-table : {f f′ : List Float} {c c′ l′ : List ℕ} (l labels : List ℕ) {ts : List Track} → Emptied f c (placesIn (length f) (length c) (length l)) ts f′ c′
     → l′ ≡ zeroFilled labels (placesIn (length f) (length c) (length l)) l → tableWith f′ c′ l′ ≡ holding ts labels (tableWith f c l)
 held-table l labels w e = rw (w .floats, w .counters, e)
-
--- ---- what is put out
-
--- as many places as tracks
-pub emitted-many : (frame hits : ℕ) (ts : List Track) → length (emittedInds frame hits ts) ≡ length (emitted frame hits ts)
-emitted-many frame hits ts =
-    let at : ℕ → Track = λ i. getD ts i blank in
-    sym (length-map (emittedInds frame hits ts) at) ∙ ap length (sieve-places (emits frame hits) ts blank)

@@ -1,5 +1,4 @@
--- Laws and LabelLaws are for callers of the functions on the table, ConfidenceLaws says which confidences are put out, Walks is what the proofs here share. Assumes nothing.
+-- Laws and LabelLaws are for callers of the functions on the table, Walks is what the proofs here share. Assumes nothing.
 pub mod Laws
 pub mod LabelLaws
-pub mod ConfidenceLaws
 pub mod Walks

@@ -1,15 +1,10 @@
-// What a frame of the tracker stands on: its settings, the lent table of tracks, and the records that it puts out.
-mod emission;
+// The lent table of tracks: a place for each, its label beside it, and the operations on them.
 mod place;
-mod record;
-mod settings;
 mod table;
 mod table_labels;
 
-pub use emission::emit;
 pub use place::PLACE_COUNTERS;
 pub use place::PLACE_FLOATS;
-pub use settings::Settings;
 pub use table::append;
 pub use table::capacity;
 pub use table::clear_beyond;

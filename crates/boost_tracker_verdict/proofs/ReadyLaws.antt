@@ -18,7 +18,7 @@ use Rattle.strack_filter.specs.KalmanFilter.{updatable}
 use Rattle.strack.specs.Strack.{predict, update}
 use Rattle.strack.proofs.Laws.{update-accepted, update-refused}
 use Rattle.records.specs.TrackRecord.{trackBytes}
-use Rattle.boost_tracker_table.specs.declared.settings.Settings.{Settings}
+use Rattle.boost_tracker_settings.specs.declared.settings.Settings.{Settings}
 use Rattle.boost_tracker_table.specs.Table.{Track, floatsOf, blank}
 use Rattle.boost_tracker_table.specs.Lent.{Table, placesOf, tracksIn}
 use Rattle.boost_tracker_table.proofs.Laws.{capacity-room, tracks-many}

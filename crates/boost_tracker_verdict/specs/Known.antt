@@ -13,8 +13,8 @@ use Rattle.records.specs.BoxRecord.{boxValues}
 use Rattle.records.specs.TrackRecord.{trackBytes}
 use Rattle.strack_filter.specs.KalmanFilter.{updatable}
 use Rattle.strack.specs.Strack.{predict}
-use Rattle.boost_tracker_table.specs.declared.settings.Settings.{Settings}
-use Rattle.boost_tracker_table.specs.Settings.{new}
+use Rattle.boost_tracker_settings.specs.declared.settings.Settings.{Settings}
+use Rattle.boost_tracker_settings.specs.Settings.{new}
 use Rattle.boost_tracker_table.specs.Table.{placeFloats, placeCounters, trackAt, tracks}
 use Rattle.boost_tracker_table.specs.Lent.{Table, tableWith}
 use Rattle.boost_tracker_verdict.specs.declared.sound.State.{State}

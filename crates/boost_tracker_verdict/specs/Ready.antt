@@ -10,7 +10,7 @@ use Rattle.strack.specs.Strack.{predict}
 use Rattle.labels.specs.Label.{isLabel, labelAt}
 use Rattle.records.specs.TrackRecord.{trackBytes}
 use Rattle.records.specs.BoxRecord.{boxValues}
-use Rattle.boost_tracker_table.specs.declared.settings.Settings.{Settings}
+use Rattle.boost_tracker_settings.specs.declared.settings.Settings.{Settings}
 use Rattle.boost_tracker_table.specs.Table.{Track, floatsOf, blank, capacity, Room}
 use Rattle.boost_tracker_table.specs.Lent.{Table, placesOf, tracksIn}
 use Rattle.boost_tracker_verdict.specs.declared.sound.State.{State}

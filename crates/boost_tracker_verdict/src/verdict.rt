@@ -6,7 +6,7 @@ use crate::sound::State;
 use crate::sound::sound;
 use crate::workable::all_workable;
 use crate::workable::finite_settings;
-use boost_tracker_table::Settings;
+use boost_tracker_settings::Settings;
 use boost_tracker_table::places_in;
 use labels::first_unlabelled;
 use records::BOX_VALUES;

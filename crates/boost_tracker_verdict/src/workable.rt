@@ -1,5 +1,5 @@
 // Whether the floats of held tracks and of the settings can be worked with: document 01's 12 and 13.
-use boost_tracker_table::Settings;
+use boost_tracker_settings::Settings;
 use boost_tracker_table::load;
 use boost_tracker_table::placed;
 use strack::strack::KalmanBoxTracker;

@@ -51,12 +51,12 @@ fn boosted(line: Line, w: &[u64; 24], lists: &[f32], ts: &[u32], k: &[u8], l: &[
     let x = part::floats(lists, w[16], w[17]);
     let s = part::floats(lists, w[17], w[18]);
     if (w[1] % 2 == 1) & (m > 0) {
-        boost_tracker_dlo::get_mh_dist_matrix(n, m, a, x, s, work);
+        boost_tracker_mh_dist::get_mh_dist_matrix(n, m, a, x, s, work);
         boost_tracker_dlo::dlo_confidence_boost(settings(w), n, m, a, t, c, ts, k, l, work, scores);
     }
     let after_dlo = line.digest(digest::floats(digest::START, scores));
     if (w[1] / 2 % 2 == 1) & (m > 0) {
-        boost_tracker_dlo::get_mh_dist_matrix(n, m, a, x, s, work);
+        boost_tracker_mh_dist::get_mh_dist_matrix(n, m, a, x, s, work);
         boost_tracker_duo::duo_confidence_boost(w[8], float(w[2]), n, m, a, work, scores);
     }
     let after_duo = after_dlo.digest(digest::floats(digest::START, scores));
@@ -110,7 +110,7 @@ fn paired(line: Line, w: &[u64; 24], lists: &[f32], k: &[u8], l: &[u8]) -> Line 
     let c = part::floats(lists, w[15], w[16]);
     let x = part::floats(lists, w[16], w[17]);
     let y = part::floats(lists, w[17], w[18]);
-    boost_tracker_dlo::get_mh_dist_matrix(n, m, b, x, y, d);
+    boost_tracker_mh_dist::get_mh_dist_matrix(n, m, b, x, y, d);
     let measured = line.digest(digest::floats(digest::START, d));
     let said = assoc::associate(params(w), n, m, b, t, d, c, e, k, l, p, q, r, s, u, v);
     let sum = digest::numbers(digest::numbers(digest::START, p), q);

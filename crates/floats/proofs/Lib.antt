@@ -10,7 +10,6 @@ pub mod Nearest
 pub mod Series
 pub mod Unsigned
 pub mod Positive
-pub mod Nans
 pub mod Signs
 pub mod Pack
 pub mod Rounding

@@ -63,7 +63,7 @@ enum Outcome {
 
 fn of_one(name: &[u8], x: f32) -> Outcome {
     if same(name, b"abs     ") {
-        return Outcome::Value(floats::abs(x));
+        return Outcome::Value(floats_pick::abs(x));
     }
     if same(name, b"sqrt    ") {
         return Outcome::Value(floats::sqrt(x));
@@ -79,10 +79,10 @@ fn of_one(name: &[u8], x: f32) -> Outcome {
 
 fn of_two(name: &[u8], x: f32, word: u32) -> Outcome {
     if same(name, b"max     ") {
-        return Outcome::Value(floats::max(x, float_of(word)));
+        return Outcome::Value(floats_pick::max(x, float_of(word)));
     }
     if same(name, b"min     ") {
-        return Outcome::Value(floats::min(x, float_of(word)));
+        return Outcome::Value(floats_pick::min(x, float_of(word)));
     }
     if same(name, b"powi    ") {
         return Outcome::Value(floats::powi(x, signed_of(word)));

@@ -13,7 +13,7 @@ use Rattle.laws.specs.Sieve.{sieve}
 use Rattle.laws.specs.Count.{countWhere}
 use Rattle.laws.specs.Most.{most}
 use Rattle.floats.specs.Known as floats
-use Rattle.floats.specs.Pick.{larger, smaller}
+use Rattle.floats_pick.specs.Pick.{larger, smaller}
 use Rattle.floats.specs.Power.{powi}
 use Rattle.floats.specs.Root.{root}
 use Rattle.floats.specs.Exponential.{exp}

@@ -1,18 +1,16 @@
--- What holds of the definitions: a record is read back as it was written, bytes are written back as they were read, up to the one NaN; digits are read back as the number, and are as few
--- as can be; and the longest lines. The modules below it are steps of the proofs. Assumes nothing.
-pub mod Digits
+-- What holds of the definitions: a record is read back as it was written, and bytes are written back as they were read, up to the one NaN. The modules below it are steps of the
+-- proofs. Assumes nothing.
 pub mod Lengths
 pub mod Fields
 pub mod Bytes
 use mathlib.Core.Path.{_≡_, refl, ap, _∙_}
 use mathlib.Core.Bool.{false}
 use mathlib.Core.List.{List, _++_}
-use Prim.Native.Nat.{ℕ, _+_, _-_, _*_, _/_, _^_, _≤_, _<_}
-use native.Mathlib.Nat.{le-refl, le-of-eq, lt-of-lt-of-le}
+use Prim.Native.Nat.{ℕ, _+_, _*_, _/_, _^_, _≤_, _<_}
+use native.Mathlib.Nat.{le-of-eq}
 use native.Mathlib.Omega.{arith}
-use lib.Dec.{T, lit<, lit≤}
-use lib.Ieee.{Float, binary32, fits, nanBits}
-use lib.Ieee.Bits.{toBits-lt}
+use lib.Dec.{T}
+use lib.Ieee.{binary32, fits, nanBits}
 use lib.ListN.{length, take, drop}
 use lib.Seq.{take-all, take-at, drop-at, length-take-le}
 use borrow.Author.Tests.{lt-ltb, le-leb}
@@ -24,13 +22,10 @@ use Rattle.records.specs.declared.track_record.TrackAnswer.the-variants 
 use Rattle.records.specs.declared.Written.{Written}
 use Rattle.records.specs.declared.Written.the-variants as written
 use Rattle.records.specs.Written.{WritesRecord, WritesText}
-use Rattle.records.specs.Field.{littleEndian, value, bits, part, AreBytes}
-use Rattle.records.specs.Text.{places, decimal, hex}
+use Rattle.records.specs.Field.{littleEndian, value, part, AreBytes}
 use Rattle.records.specs.BoxRecord.{boxBytes, bytesOfBox, boxOf, boxAt}
 use Rattle.records.specs.TrackRecord.{trackBytes, bytesOfTrack, trackOf, trackAt}
-use Rattle.records.specs.Line.{line, lineBytes, refusedLine}
-use Rattle.records.proofs.Laws.Digits.{few-below, most-places, enough-places, fewest-places, readAs, read-digits}
-use Rattle.records.proofs.Laws.Lengths.{length-box, length-track, length-decimal, length-line, length-refused}
+use Rattle.records.proofs.Laws.Lengths.{length-box, length-track}
 use Rattle.records.proofs.Laws.Fields.{box-fields, track-fields, five-then}
 use Rattle.records.proofs.Laws.Bytes.{value-le, float-le, settled, rejoin, le-part, settled-part}
 
@@ -118,33 +113,6 @@ pub track-same : (l : List ℕ) → AreBytes l → length l ≡ trackBytes → N
 track-same l h n m =
     track-encode l h n
     ∙ rw (m .first, m .second, m .third, m .fourth, m .fifth, rejoin l 28 4 1, rejoin l 24 4 5, rejoin l 20 4 9, rejoin l 16 4 13, rejoin l 12 4 17, rejoin l 4 8 21, rejoin l 0 4 29) (take-all trackBytes l (le-of-eq n))
-
--- ---- digits are read back as the number; a number of two digits or more has no zero in front
-
-pub decimal-read : (n : ℕ) → n < 2 ^ 64 → readAs 10 (decimal n) ≡ n
-unfolding decimal
-decimal-read n h = read-digits 10 (places n) n (lit< tt) (lit≤ tt) (enough-places 19 n (lt-of-lt-of-le h (lit≤ tt)))
-
-pub decimal-fewest : (n : ℕ) → 10 ≤ n → 10 ^ (length (decimal n) - 1) ≤ n
-decimal-fewest n h = rw (length-decimal n) (fewest-places 19 n h)
-
-pub hex-read : (x : Float) → T (fits binary32 x) → readAs 16 (hex x) ≡ bits x
-unfolding hex
-hex-read x h = read-digits 16 8 (bits x) (lit< tt) (le-refl 16) (toBits-lt binary32 x h)
-
--- ---- the longest texts
-
-pub decimal-most : (n : ℕ) → length (decimal n) ≤ 20
-decimal-most n = rw (length-decimal n) (most-places n)
-
-pub line-most : (t : TrackRecord) → t .frame < 2 ^ 32 → length (line t) ≤ 77
-line-most t h = let n = length-line t in let a = few-below 19 9 (t .frame) (lt-of-lt-of-le h (lit≤ tt)) in let b = most-places (t .id) in omega arith
-
-pub line-room : (t : TrackRecord) → length (line t) ≤ lineBytes
-line-room t = let n = length-line t in let a = most-places (t .frame) in let b = most-places (t .id) in omega arith
-
-pub refused-most : (number nth : ℕ) → length (refusedLine number nth) ≤ 57
-refused-most number nth = let n = length-refused number nth in let a = most-places number in let b = most-places nth in omega arith
 
 -- ---- for callers: what a call that had room answered and left
 

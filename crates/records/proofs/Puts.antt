@@ -12,9 +12,8 @@ use borrow.Author.Tests.{le-leb, lt-leb}
 use borrow.Rule.Slice.PartMut.{putMid, mid-len}
 use Rattle.laws.specs.Splice.{splice, length-splice, mid-splice, splice-splice}
 use Rattle.records.specs.declared.Written.the-variants.{Bytes, Short}
-use Rattle.records.specs.Written.{Writes, WritesText}
+use Rattle.records.specs.Written.{Writes, WritesText, Put}
 use Rattle.records.specs.Field.{littleEndian}
-use Rattle.records.specs.Private.{Put}
 
 -- a part of k bytes that was lent, and came back as xs
 pub put-part : (l vs xs : List ℕ) (at k : ℕ) → at + k ≤ length l → vs ≡ xs → length xs ≡ k → Put at xs l (at + k) (putMid at (at + k - at) l vs)

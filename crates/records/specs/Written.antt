@@ -2,7 +2,7 @@
 use mathlib.Core.Path.{_≡_}
 use mathlib.Core.Bool.{Bool, cond}
 use mathlib.Core.List.{List}
-use Prim.Native.Nat.{ℕ, _*_, _/_}
+use Prim.Native.Nat.{ℕ, _+_, _*_, _/_, _≤_}
 use lib.Dec.{leb, ltb}
 use lib.ListN.{length}
 use Rattle.laws.specs.Splice.{splice}
@@ -21,3 +21,11 @@ WritesRecord s k xs out w out′ = Writes (ltb k (length out / s)) (k * s) xs ou
 -- a text, at the front
 abbrev pub WritesText : List ℕ → List ℕ → Written → List ℕ → Type 0
 WritesText xs out w out′ = Writes (leb (length xs) (length out)) 0 xs out w out′
+
+-- ---- between the functions that write: what one hands to the next
+
+-- xs was written over l from `at` on, and ends where the next is written
+pub record Put (at : ℕ) (xs l : List ℕ) (next : ℕ) (out : List ℕ) : Type 0 where
+  pub ends : next ≡ at + length xs
+  pub room : next ≤ length l
+  pub cells : out ≡ splice l at xs

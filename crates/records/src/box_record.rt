@@ -10,7 +10,7 @@ ghost use mathlib.Core.Path.{_≡_};
 ghost use Prim.Native.Nat.{_+_, _≤_};
 ghost use lib.ListN.{length};
 ghost use Rattle.records.specs.BoxRecord.{boxBytes, boxOf, bytesOfBox, boxAt, WritesBox};
-ghost use Rattle.records.specs.Private.{Put};
+ghost use Rattle.records.specs.Written.{Put};
 
 pub const BOX_BYTES: usize = 25;
 

@@ -3,10 +3,10 @@ ghost use mathlib.Core.Path.{_≡_};
 ghost use Prim.Native.Nat.{_+_, _≤_, _<_};
 ghost use lib.ListN.{length};
 ghost use Rattle.records.specs.Field as Field;
-ghost use Rattle.records.specs.Private.{Put};
+ghost use Rattle.records.specs.Written.{Put};
 
 // The bits of x; of every NaN, those of the one that is written.
-pub(crate) fn bits(x: f32) -> u32
+pub fn bits(x: f32) -> u32
     ensures { λ r. ⌜ r ≡ Field.bits x ⌝ }
 {
     if x != x {

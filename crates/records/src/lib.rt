@@ -1,8 +1,6 @@
-// Box records, track records and the printed lines: document 01, "Records and limits", over lent bytes.
+// Box records and track records: document 01, "Records and limits", over lent bytes.
 mod box_record;
 mod field;
-mod line;
-mod text;
 mod track_record;
 
 pub use box_record::BOX_BYTES;
@@ -11,10 +9,7 @@ pub use box_record::BoxAnswer;
 pub use box_record::BoxRecord;
 pub use box_record::read_box;
 pub use box_record::write_box;
-pub use line::LINE_BYTES;
-pub use line::write_line;
-pub use line::write_refused;
-pub use text::write_decimal;
+pub use field::bits;
 pub use track_record::TRACK_BYTES;
 pub use track_record::TrackAnswer;
 pub use track_record::TrackRecord;

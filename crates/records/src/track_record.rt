@@ -12,7 +12,7 @@ ghost use mathlib.Core.Path.{_≡_};
 ghost use Prim.Native.Nat.{_+_, _≤_};
 ghost use lib.ListN.{length};
 ghost use Rattle.records.specs.TrackRecord.{trackBytes, trackOf, bytesOfTrack, trackAt, WritesTrack};
-ghost use Rattle.records.specs.Private.{Put};
+ghost use Rattle.records.specs.Written.{Put};
 
 pub const TRACK_BYTES: usize = 33;
 

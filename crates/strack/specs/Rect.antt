@@ -1,7 +1,7 @@
 -- Boxes: `Rect` of rect.rs, lines 14-135, at f32: left, top, width, height. The larger and the smaller are document 01's; the accessors are the fields.
 use mathlib.Core.Bool.{cond}
 use lib.Ieee.{Float, lt, le}
-use Rattle.floats.specs.Pick.{larger, smaller}
+use Rattle.floats_pick.specs.Pick.{larger, smaller}
 use Rattle.strack.specs.declared.rect.Rect.{Rect}
 use Rattle.strack.specs.declared.rect.Xyah.{Xyah}
 use Rattle.strack.specs.declared.rect.Xyxy.{Xyxy}

@@ -29,7 +29,7 @@ pub struct Xyxy {
 fn shared_length(from: f32, extent: f32, other: f32, size: f32) -> f32
     ensures { λ r. ⌜ r ≡ sharedLength from extent other size ⌝ }
 {
-    floats::min(from + extent, other + size) - floats::max(from, other) + 1.0
+    floats_pick::min(from + extent, other + size) - floats_pick::max(from, other) + 1.0
 }
 
 impl Rect {

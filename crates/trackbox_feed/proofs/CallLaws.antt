@@ -11,7 +11,7 @@ use borrow.Author.Tests.{lt-ltb, le-ltb}
 use Rattle.records.specs.declared.box_record.BoxRecord.{BoxRecord}
 use Rattle.records.specs.BoxRecord.{boxValues}
 use Rattle.records.specs.TrackRecord.{trackBytes}
-use Rattle.records.specs.Line.{lineBytes, refusedLine}
+use Rattle.records_line.specs.Line.{lineBytes, refusedLine}
 use Rattle.boost_tracker_verdict.specs.declared.sound.State.{State}
 use Rattle.boost_tracker_verdict.specs.Boxes.{Boxes, boxesWith}
 use Rattle.trackbox_stream.specs.declared.rules.Refusal.{Refusal}

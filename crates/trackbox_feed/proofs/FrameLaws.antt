@@ -10,13 +10,13 @@ use borrow.Author.Tests.{ltb-true}
 use Rattle.laws.specs.Laid.{rows, laid, length-rows}
 use Rattle.records.proofs.Laws.Lengths.{length-track}
 use Rattle.records.specs.TrackRecord.{trackBytes}
-use Rattle.records.specs.Line.{line, lineBytes, refusedLine}
-use Rattle.boost_tracker_table.specs.declared.settings.Settings.{Settings}
+use Rattle.records_line.specs.Line.{line, lineBytes, refusedLine}
+use Rattle.boost_tracker_settings.specs.declared.settings.Settings.{Settings}
 use Rattle.boost_tracker_verdict.specs.declared.sound.State.{State}
 use Rattle.boost_tracker_verdict.specs.declared.refusal.Refusal.{Refusal}
 use Rattle.boost_tracker_verdict.specs.declared.refusal.Verdict.{Verdict}
 use Rattle.boost_tracker_verdict.specs.declared.refusal.Verdict.the-variants.{Accepted, Refused}
-use Rattle.boost_tracker_table.specs.Emission.{emittedInds, recordAt, bytesAt}
+use Rattle.boost_tracker_emission.specs.Emission.{emittedInds, recordAt, bytesAt}
 use Rattle.boost_tracker_table.specs.Lent.{Call, callWith}
 use Rattle.boost_tracker_verdict.specs.Boxes.{Boxes}
 use Rattle.boost_tracker_verdict.specs.Verdict.{number, answer, whereAccepted}

@@ -18,10 +18,11 @@ use Rattle.records.specs.declared.Written.{Written}
 use Rattle.records.specs.declared.Written.the-variants as written
 use Rattle.records.specs.TrackRecord.{trackBytes, trackAt}
 use Rattle.records.specs.Written.{WritesText}
-use Rattle.records.specs.Line.{line, lineBytes, refusedLine}
-use Rattle.records.proofs.Laws.{refused-most, text-fitted}
-use Rattle.records.proofs.Laws.Digits.{most-places}
-use Rattle.records.proofs.Laws.Lengths.{length-line}
+use Rattle.records_line.specs.Line.{line, lineBytes, refusedLine}
+use Rattle.records_line.proofs.Laws.{refused-most}
+use Rattle.records.proofs.Laws.{text-fitted}
+use Rattle.records_line.proofs.Laws.Digits.{most-places}
+use Rattle.records_line.proofs.Laws.Lengths.{length-line}
 use Rattle.trackbox_feed.specs.Private.{Put, readAt, linesIn}
 
 -- ---- one text

@@ -21,17 +21,17 @@ use Rattle.strack.specs.Strack.{getState, confidence}
 use Rattle.labels.specs.Label.{isLabel, labelAt}
 use Rattle.records.specs.declared.track_record.TrackRecord.{TrackRecord}
 use Rattle.records.specs.TrackRecord.{trackBytes, trackOf}
-use Rattle.records.specs.Line.{line}
+use Rattle.records_line.specs.Line.{line}
 use Rattle.records.proofs.Laws.{TrackFits, track-decode}
 use Rattle.records.proofs.Laws.Lengths.{length-track}
-use Rattle.boost_tracker_table.specs.declared.settings.Settings.{Settings}
+use Rattle.boost_tracker_settings.specs.declared.settings.Settings.{Settings}
 use Rattle.boost_tracker_verdict.specs.declared.sound.State.{State}
 use Rattle.boost_tracker_verdict.specs.declared.refusal.Verdict.the-variants.{Accepted}
 use Rattle.boost_tracker_table.specs.Table.{Track, blank}
 use Rattle.boost_tracker_table.specs.Lent.{Table, placesOf, tracksIn, labelsIn, holding}
-use Rattle.boost_tracker_table.specs.Emission.{emits, emitted, emittedInds, recordAt, bytesAt}
-use Rattle.boost_tracker_table.specs.Record.{nineTenths, recordOf}
-use Rattle.boost_tracker_table.proofs.Laws.{emitted-many}
+use Rattle.boost_tracker_emission.specs.Emission.{emits, emitted, emittedInds, recordAt, bytesAt}
+use Rattle.boost_tracker_emission.specs.Record.{nineTenths, recordOf}
+use Rattle.boost_tracker_emission.proofs.Laws.{emitted-many}
 use Rattle.boost_tracker_verdict.specs.Boxes.{Boxes}
 use Rattle.boost_tracker_verdict.specs.Sound.{rising, sound}
 use Rattle.boost_tracker_verdict.specs.Verdict.{verdict}

@@ -7,7 +7,7 @@ use Rattle.laws.specs.Tab.{tab}
 use Rattle.laws.specs.Laid.{rows}
 use Rattle.records.specs.declared.box_record.BoxRecord.{BoxRecord}
 use Rattle.records.specs.declared.track_record.TrackRecord.{TrackRecord}
-use Rattle.records.specs.Line.{line, refusedLine}
+use Rattle.records_line.specs.Line.{line, refusedLine}
 use Rattle.trackbox_stream.specs.Stream.{Event, work, refuse, Frame, refused, accepted, Printed, printedWith, framed, happens, prints}
 use Rattle.trackbox_stream.specs.Feeding.{emptyWork}
 use Rattle.trackbox_stream.proofs.Theorem.{printing-stopped}

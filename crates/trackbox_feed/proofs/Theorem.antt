@@ -17,7 +17,7 @@ use Rattle.laws.specs.Over.{over, over-none, length-over}
 use Rattle.records.specs.declared.box_record.BoxRecord.{BoxRecord}
 use Rattle.records.specs.declared.track_record.TrackRecord.{TrackRecord}
 use Rattle.records.specs.BoxRecord.{boxBytes, boxValues}
-use Rattle.records.specs.Line.{line, lineBytes, refusedLine}
+use Rattle.records_line.specs.Line.{line, lineBytes, refusedLine}
 use Rattle.records.specs.TrackRecord.{trackBytes}
 use Rattle.records.proofs.Laws.{text-written}
 use Rattle.boost_tracker_verdict.specs.declared.sound.State.{State}

@@ -11,7 +11,7 @@ use Rattle.laws.specs.Laid.{rows}
 use Rattle.records.specs.declared.box_record.BoxRecord.{BoxRecord}
 use Rattle.records.specs.BoxRecord.{boxValues}
 use Rattle.records.specs.TrackRecord.{trackBytes}
-use Rattle.records.specs.Line.{line, lineBytes, refusedLine}
+use Rattle.records_line.specs.Line.{line, lineBytes, refusedLine}
 use Rattle.boost_tracker_verdict.specs.declared.refusal.Verdict.{Verdict}
 use Rattle.boost_tracker_verdict.specs.declared.refusal.Verdict.the-variants.{Accepted, Refused}
 use Rattle.boost_tracker_verdict.specs.declared.sound.State.{State}

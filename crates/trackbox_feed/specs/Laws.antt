@@ -7,7 +7,7 @@ use lib.ListN.{length, take}
 use lib.Ieee.{Float}
 use Rattle.records.specs.declared.box_record.BoxRecord.{BoxRecord}
 use Rattle.records.specs.BoxRecord.{boxBytes}
-use Rattle.records.specs.Line.{lineBytes}
+use Rattle.records_line.specs.Line.{lineBytes}
 use Rattle.records.specs.Field.{AreBytes}
 use Rattle.boost_tracker_verdict.specs.Boxes.{Boxes}
 use Rattle.trackbox_stream.specs.Stream.{boxRecords}

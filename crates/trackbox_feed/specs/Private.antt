@@ -12,7 +12,7 @@ use Rattle.records.specs.declared.box_record.BoxRecord.{BoxRecord}
 use Rattle.records.specs.declared.track_record.TrackRecord.{TrackRecord}
 use Rattle.records.specs.Field.{part}
 use Rattle.records.specs.TrackRecord.{trackBytes, trackOf}
-use Rattle.records.specs.Line.{line, refusedLine}
+use Rattle.records_line.specs.Line.{line, refusedLine}
 use Rattle.boost_tracker_verdict.specs.declared.sound.State.{State}
 use Rattle.boost_tracker_verdict.specs.Boxes.{Boxes}
 use Rattle.trackbox_stream.specs.declared.rules.OpenFrame.{OpenFrame}

@@ -14,12 +14,12 @@ use Rattle.records.specs.BoxRecord.{boxValues}
 use Rattle.records.specs.TrackRecord.{trackBytes}
 use Rattle.boost_tracker_verdict.specs.declared.refusal.Verdict.{Verdict}
 use Rattle.boost_tracker_verdict.specs.declared.refusal.Verdict.the-variants.{Accepted, Refused}
-use Rattle.boost_tracker_table.specs.declared.settings.Settings.{Settings}
+use Rattle.boost_tracker_settings.specs.declared.settings.Settings.{Settings}
 use Rattle.boost_tracker_verdict.specs.declared.sound.State.{State}
-use Rattle.boost_tracker_table.specs.Settings.{new}
+use Rattle.boost_tracker_settings.specs.Settings.{new}
 use Rattle.boost_tracker_table.specs.Table.{placeFloats, placeCounters}
 use Rattle.boost_tracker_table.specs.Lent.{Table, tableWith, tracksIn, labelsIn, holding}
-use Rattle.boost_tracker_table.specs.Emission.{emittedInds, recordAt}
+use Rattle.boost_tracker_emission.specs.Emission.{emittedInds, recordAt}
 use Rattle.boost_tracker_verdict.specs.Boxes.{Boxes, boxesWith}
 use Rattle.boost_tracker_verdict.specs.Verdict.{number, verdict}
 use Rattle.boost_tracker_definition.specs.Update.{Stages, update, stateAfter, labelsStarted, labelsRetained}

@@ -1,16 +1,16 @@
 // The lines of a call: one for each track record that a frame put out, or the one of a refusal.
-use records::LINE_BYTES;
 use records::TrackAnswer;
 use records::TrackRecord;
 use records::Written;
 use records::read_track;
-use records::write_line;
-use records::write_refused;
+use records_line::LINE_BYTES;
+use records_line::write_line;
+use records_line::write_refused;
 ghost use mathlib.Core.Path.{_≡_};
 ghost use Prim.Native.Nat.{_+_, _*_, _/_, _≤_, _<_};
 ghost use lib.ListN.{length};
 ghost use Rattle.records.specs.TrackRecord.{trackBytes};
-ghost use Rattle.records.specs.Line.{line, lineBytes, refusedLine};
+ghost use Rattle.records_line.specs.Line.{line, lineBytes, refusedLine};
 ghost use Rattle.trackbox_feed.specs.Private.{Put, readAt, linesIn};
 
 // Each of these writes from `at` on and answers where it ended.

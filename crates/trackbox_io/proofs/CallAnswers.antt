@@ -10,7 +10,7 @@ use lib.Ieee.{nan}
 use borrow.Author.Tests.{lt-ltb, ltb-true}
 use Rattle.records.specs.declared.box_record.BoxRecord.{BoxRecord}
 use Rattle.records.specs.TrackRecord.{trackBytes}
-use Rattle.records.specs.Line.{lineBytes}
+use Rattle.records_line.specs.Line.{lineBytes}
 use Rattle.boost_tracker_verdict.specs.Boxes.{Boxes}
 use Rattle.trackbox_stream.specs.declared.rules.Next.{Next}
 use Rattle.trackbox_stream.specs.declared.rules.Next.the-variants as next

@@ -12,7 +12,7 @@ use borrow.Author.Tests.{le-leb, lt-leb, lt-ltb}
 use Rattle.records.specs.declared.box_record.BoxRecord.{BoxRecord}
 use Rattle.records.specs.BoxRecord.{boxBytes}
 use Rattle.records.specs.TrackRecord.{trackBytes}
-use Rattle.records.specs.Line.{lineBytes}
+use Rattle.records_line.specs.Line.{lineBytes}
 use Rattle.records.specs.Field.{AreBytes}
 use Rattle.trackbox_stream.specs.Stream.{boxRecords}
 use Rattle.trackbox_feed.specs.declared.feed.Feed.{Feed}

@@ -13,7 +13,7 @@ use Rattle.records.specs.declared.box_record.BoxRecord.{BoxRecord}
 use Rattle.records.specs.Field.{value}
 use Rattle.records.specs.BoxRecord.{boxBytes}
 use Rattle.records.specs.Known.{loneTrack}
-use Rattle.records.specs.Line.{line, refusedLine}
+use Rattle.records_line.specs.Line.{line, refusedLine}
 use Rattle.trackbox_stream.specs.Stream.{work, refuse, lastFrame, boxesOf, earlier, frameWork, frames, refusalOf, passing, done, events, boxRecords, Frame, refused, accepted, printedWith, prints, printing, trackbox}
 
 abbrev box : ℕ → BoxRecord

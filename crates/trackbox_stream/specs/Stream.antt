@@ -14,7 +14,7 @@ use Rattle.records.specs.declared.box_record.BoxRecord.{BoxRecord}
 use Rattle.records.specs.declared.track_record.TrackRecord.{TrackRecord}
 use Rattle.records.specs.Field.{part}
 use Rattle.records.specs.BoxRecord.{boxBytes, boxOf}
-use Rattle.records.specs.Line.{line, refusedLine}
+use Rattle.records_line.specs.Line.{line, refusedLine}
 
 pub data Event : Type 0 where
   -- a frame, by its number, is worked with the boxes of these records; where it is turned down it names the record of this number

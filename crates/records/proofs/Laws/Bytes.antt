@@ -3,7 +3,7 @@ use mathlib.Core.Path.{_≡_, refl, sym, ap, subst, _∙_}
 use mathlib.Core.Bool.{Bool, true, false, not, cond, true≢false}
 use mathlib.Core.List.{List, [], _∷_, _++_}
 use Prim.Native.Nat.{ℕ, zero, suc, _+_, _*_, _/_, _%_, _^_, _≤_, _<_}
-use native.Mathlib.Nat.{le-trans, lt-of-not-le, pow-succ', min-le-left}
+use native.Mathlib.Nat.{le-trans, lt-of-not-le, div-lt-iff-lt-mul, pow-succ', mul-comm, min-le-left}
 use native.Mathlib.Decide.{decLe}
 use native.Mathlib.Omega.{arith}
 use lib.Dec.{T, lit<}
@@ -12,7 +12,9 @@ use lib.Ieee.Bits.{ofBits-toBits, toBits-ofBits, toBits-lt, nanBits-is}
 use lib.ListN.{length, getD, take, drop, length-take, length-drop, List·getD-eq-default}
 use lib.Seq.{length-take-le, getD-take, getD-drop, take-add, drop-drop}
 use Rattle.records.specs.Field.{AreBytes, littleEndian, value, bits, float, part, floatAt}
-use Rattle.records.proofs.Laws.Digits.{quotient-below}
+
+pub quotient-below : (b k n : ℕ) → 0 < b → n < b ^ suc k → n / b < b ^ k
+quotient-below b k n p h = div-lt-iff-lt-mul p .1 (rw (pow-succ' b k, mul-comm) at h)
 
 -- ---- numbers
 

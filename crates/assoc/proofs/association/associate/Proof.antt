@@ -4,7 +4,8 @@ use native.Mathlib.Omega.{arith}
 use borrow.Author.Needs.{needs}
 use denote.Ref.{now}
 use Rattle.assoc.specs.Answers.{lentWith}
-use Rattle.assoc.proofs.AssociationLaws.{not-refused, associate-ready}
+use Rattle.assoc.proofs.AssociationLaws.{not-refused}
+use Rattle.assoc_verdict.proofs.Laws.{associate-ready}
 use Rattle.assoc.proofs.EndLaws.{paired-is, associate-refused, associate-accepted}
 use Rattle.assoc.proofs.association.associate.Statement.{statement}
 use Rattle.assoc.proofs.association.associate.Tie as tie

@@ -6,7 +6,8 @@ use lib.ListN.{take}
 use borrow.Author.Needs.{needs}
 use denote.Ref.{now}
 use Rattle.assoc.specs.Answers.{lentWith}
-use Rattle.assoc.proofs.AssociationLaws.{not-refused, within-ready}
+use Rattle.assoc.proofs.AssociationLaws.{not-refused}
+use Rattle.assoc_verdict.proofs.Laws.{within-ready}
 use Rattle.assoc.proofs.EndLaws.{paired-is, within-refused, within-accepted}
 use Rattle.assoc.proofs.association.associate_within.Statement.{statement}
 use Rattle.assoc.proofs.association.associate_within.Tie as tie

@@ -5,7 +5,7 @@ use denote.Ref.{now}
 use Rattle.laws.specs.Grid.{cellAt}
 use Rattle.labels.specs.Label.{sameLabel, alike}
 use Rattle.floats.specs.Single.{plusZero}
-use Rattle.assoc.specs.Cost.{costMatrix}
+use Rattle.assoc_cost.specs.Cost.{costMatrix}
 use Rattle.assoc.proofs.AssociationLaws.{unlike-set}
 use Rattle.assoc.proofs.association.costs.Statement.{statement}
 use Rattle.assoc.proofs.association.costs.Tie as tie

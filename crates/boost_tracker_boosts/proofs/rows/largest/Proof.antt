@@ -3,7 +3,7 @@ use Prim.Native.Nat.{_-_}
 use lib.Ieee.{nan}
 use lib.ListN.{getD, length}
 use native.Mathlib.Omega.{arith}
-use Rattle.floats.specs.Pick.{larger}
+use Rattle.floats_pick.specs.Pick.{larger}
 use Rattle.laws.specs.Folding.{Folding, fold-end, fold-on, fold-start}
 use Rattle.boost_tracker_boosts.proofs.rows.largest.Statement.{statement}
 use Rattle.boost_tracker_boosts.proofs.rows.largest.Tie as tie

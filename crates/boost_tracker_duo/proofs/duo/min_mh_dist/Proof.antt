@@ -4,7 +4,7 @@ use lib.Ieee.{nan, nanBits}
 use lib.ListN.{getD}
 use native.Mathlib.Omega.{arith}
 use Rattle.boost_tracker_duo.specs.Duo.{maxF32}
-use Rattle.floats.specs.Pick.{smaller}
+use Rattle.floats_pick.specs.Pick.{smaller}
 use Rattle.laws.specs.Folding.{Folding, fold-end, fold-on, fold-start}
 use Rattle.boost_tracker_duo.proofs.duo.min_mh_dist.Statement.{statement}
 use Rattle.boost_tracker_duo.proofs.duo.min_mh_dist.Tie as tie

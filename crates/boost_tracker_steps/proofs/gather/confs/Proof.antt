@@ -9,7 +9,7 @@ use Rattle.strack.specs.declared.strack.KalmanBoxTracker.{KalmanBoxTracker}
 use Rattle.strack.specs.Strack.{getConfidence}
 use Rattle.boost_tracker_table.specs.Table.{tracks}
 use Rattle.boost_tracker_table.proofs.Laws.{tracks-many}
-use Rattle.boost_tracker_table.specs.Record.{nineTenths}
+use Rattle.boost_tracker_emission.specs.Record.{nineTenths}
 use Rattle.boost_tracker_definition.specs.Update.{trackerAt}
 use Rattle.boost_tracker_steps.proofs.GatherLaws.{confs-are}
 use Rattle.boost_tracker_steps.proofs.gather.confs.Statement.{statement}

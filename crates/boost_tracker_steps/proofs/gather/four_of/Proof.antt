@@ -1,6 +1,6 @@
 -- `gather::four_of` meets its contract, by cases. Assumes nothing.
 use mathlib.Core.Path.{_∙_, ap}
-use Rattle.boost_tracker_dlo.specs.MhDist.{row}
+use Rattle.boost_tracker_mh_dist.specs.MhDist.{row}
 use Rattle.boost_tracker_definition.specs.Update.{cornersOf}
 use borrow.Author.Needs.{needs}
 use Rattle.boost_tracker_steps.proofs.gather.four_of.Statement.{statement}

@@ -13,7 +13,7 @@ use mir.Val.{SFits, Fits, toZ, ofZ}
 use mir.Facts.{toZ-ofZ}
 use Rattle.floats.specs.Exponential.{L, S, ofQ, ofFinite, exp}
 use Rattle.floats.specs.Private.{Splits}
-use Rattle.floats.proofs.Nans.{ne-self}
+use Rattle.floats_pick.proofs.Nans.{ne-self}
 use Rattle.floats.proofs.Pack.{no-nan}
 use Rattle.floats.proofs.Series.{sum-le, sum-ge}
 use Rattle.floats.proofs.Signs.{read}

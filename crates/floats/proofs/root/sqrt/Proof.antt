@@ -13,7 +13,7 @@ use lib.Ieee.Positive.{positive, positive-finite}
 use Rattle.floats.specs.Root.{root}
 use Rattle.floats.specs.Private.{Parts}
 use Rattle.floats.proofs.Nearest.{parts-above, significance, root-of-parts}
-use Rattle.floats.proofs.Nans.{ne-self}
+use Rattle.floats_pick.proofs.Nans.{ne-self}
 use Rattle.floats.proofs.Pack.{no-nan}
 use Rattle.floats.proofs.root.sqrt.Statement.{statement}
 use Rattle.floats.proofs.root.sqrt.Tie as tie

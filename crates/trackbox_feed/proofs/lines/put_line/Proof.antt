@@ -1,7 +1,7 @@
 -- `lines::put_line` meets its contract: a line has room in LINE_BYTES bytes. Assumes nothing.
 use native.Mathlib.Omega.{arith}
 use borrow.Author.Needs.{needs}
-use Rattle.records.specs.Line.{lineBytes}
+use Rattle.records_line.specs.Line.{lineBytes}
 use Rattle.trackbox_feed.proofs.LineLaws.{line-room, never-short, count-is, put-within}
 use Rattle.trackbox_feed.proofs.lines.put_line.Statement.{statement}
 use Rattle.trackbox_feed.proofs.lines.put_line.Tie as tie

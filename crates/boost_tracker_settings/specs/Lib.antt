@@ -1,0 +1,2 @@
+-- The tracker's settings: what `new` and the `with_` options give.
+pub mod Settings

@@ -1,0 +1,4 @@
+// The settings of a tracker.
+mod settings;
+
+pub use settings::Settings;
