@@ -5,7 +5,7 @@
  * the payload of a NaN are left open. CHANGELOG.md says what each version changed for callers.
  *
  * ---- What the library does not do ----
- * It allocates nothing, keeps nothing between calls and has no data of its own: 39 kB of code, no variables. Every call
+ * It allocates nothing, keeps nothing between calls and has no data of its own: 44 kB of code, no variables. Every call
  * is reentrant, from any thread, and two trackers are two tables. No call fails but by its refusal number, overflows,
  * runs forever, or touches memory that it was not lent. Of other code it calls memset alone.
  *
@@ -23,7 +23,8 @@
  * - A bool is 0 or 1.
  * - Table and state go on from frame to frame as the last call left them. A call accepts whatever is sound (11), but
  *   only then do tracks go on, and no id is given twice.
- * - Stack, below the caller's frame: 38 KiB for bedside_update, at most 17 KiB for every other call.
+ * - Stack, below the caller's frame: 38 KiB for bedside_update, 37 KiB for bedside_why,
+ *   at most 17 KiB for every other call.
  *
  * ---- Refusals ----
  * A call that is turned down says the number why, and 0 where it is accepted (enum bedside_refusal below). It changes
@@ -64,10 +65,10 @@ extern "C" {
 
 /* ---- version ---- */
 #define BEDSIDE_VERSION_MAJOR 3
-#define BEDSIDE_VERSION_MINOR 0
+#define BEDSIDE_VERSION_MINOR 1
 #define BEDSIDE_VERSION_PATCH 0
 #define BEDSIDE_VERSION (BEDSIDE_VERSION_MAJOR * 10000 + BEDSIDE_VERSION_MINOR * 100 + BEDSIDE_VERSION_PATCH)
-#define BEDSIDE_VERSION_STRING "3.0.0"
+#define BEDSIDE_VERSION_STRING "3.1.0"
 
 /* ---- sizes ---- */
 #define BEDSIDE_PLACE_FLOATS 24       /* a place of the table */
@@ -122,7 +123,9 @@ enum bedside_refusal {
     BEDSIDE_TOO_MANY = 31,
     BEDSIDE_OTHER_SIZE = 32,
     BEDSIDE_TOO_SHORT = 33,
-    BEDSIDE_NOT_LABELLED = 34
+    BEDSIDE_NOT_LABELLED = 34,
+    /* why a box has no track: besides those of a frame */
+    BEDSIDE_NO_BOX = 81
 };
 
 /* The number in words, for a log. */
@@ -148,6 +151,7 @@ static inline const char *bedside_refusal_text(uint32_t refusal)
     case BEDSIDE_OTHER_SIZE: return "an input is not as long as the sides say";
     case BEDSIDE_TOO_SHORT: return "a result or work slice is too short";
     case BEDSIDE_NOT_LABELLED: return "a label is other than 1 to 3";
+    case BEDSIDE_NO_BOX: return "the frame has no box of this index";
     default: return "no refusal of this library";
     }
 }
@@ -337,6 +341,39 @@ bedside_update_answer bedside_update(bedside_settings settings, bedside_state st
                                      size_t labels_len, const float *boxes, size_t boxes_len,
                                      const uint8_t *box_labels, size_t box_labels_len, uint8_t *out, size_t out_len,
                                      double *work64, size_t work64_len, float *work32, size_t work32_len);
+
+/* ---- why a box has no track: the frame's refusals in their order, then 81 where box is not below the number of boxes
+ * ---- */
+enum bedside_fate {
+    BEDSIDE_MATCHED = 1,         /* to a held track */
+    BEDSIDE_STARTED = 2,         /* as a new track; it was in no pair */
+    BEDSIDE_UNDER_THRESHOLD = 3, /* its score after both boosts is below det_thresh: the frame drops it */
+    BEDSIDE_REJECTED = 4         /* as a pair, for its IoU or its label, and started as a new track */
+};
+
+typedef struct {
+    uint32_t refusal;
+    uint64_t index;     /* with 16 and 20: the lowest box concerned; 0 otherwise */
+    uint32_t fate;      /* enum bedside_fate */
+    uint64_t id;        /* of the track matched (1) or started (2, 4); 0 with 3 */
+    float score;        /* as given */
+    float score_dlo;    /* after the DLO boost */
+    float score_duo;    /* after the DUO boost: what is held to det_thresh */
+    uint64_t paired_id; /* the track that it was paired with (1, 4); else 0, and so are the next three */
+    float iou;          /* of the two, as the frame compares them: of the predicted track; 0 under unequal labels */
+    float intersection; /* the areas are as computed */
+    float union_area;
+} bedside_explanation;
+
+/* What bedside_update with the same arguments would do with the box of this index. It is lent what a frame is; table
+ * and out are not written, and out is not read: only its length counts, for 18. After an accepted call every lent cell
+ * of the work slices is 0. A scorer's question is asked with the table as it was before the frame. */
+bedside_explanation bedside_why(bedside_settings settings, bedside_state state, const float *floats,
+                                size_t floats_len, const uint64_t *counters, size_t counters_len,
+                                const uint8_t *labels, size_t labels_len, const float *boxes, size_t boxes_len,
+                                const uint8_t *box_labels, size_t box_labels_len, const uint8_t *out,
+                                size_t out_len, double *work64, size_t work64_len, float *work32,
+                                size_t work32_len, size_t box);
 
 /* ---- lengths to lend: for a table of so many places, and for a frame of so many held tracks (state.count) and
  * boxes. The work of the pairs has the same lengths. ---- */

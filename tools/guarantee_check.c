@@ -1,6 +1,7 @@
 /* What include/bedside.h and docs/LIMITS.md say of stack and floating-point environment, tried by tools/guarantee_check:
  *
  *     program update               the most bytes of stack that frames took
+ *     program why                  the most that questions about boxes of the same frames took
  *     program others               the most that any other call took
  *     program match_detections     what that call took on the direct path, and by lapjv
  *     program linear_assignment    the same of this call
@@ -55,6 +56,17 @@ static void update(void)
                                              work64, CELLS, work32, 4 * CELLS);
     state = a.state;
     refusal = a.refusal;
+}
+
+/* About the last box; where there is none, that is said by 81. */
+static void why(void)
+{
+    size_t box = frame_boxes == 0 ? 0 : frame_boxes - 1;
+    bedside_explanation e = bedside_why(settings, state, floats, BEDSIDE_FLOATS_LEN(PLACES), counters,
+                                        BEDSIDE_COUNTERS_LEN(PLACES), labels, sizeof labels, boxes,
+                                        bedside_boxes_len(frame_boxes), box_labels, frame_boxes, out, sizeof out, work64,
+                                        CELLS, work32, 4 * CELLS, box);
+    refusal = frame_boxes == 0 && e.refusal == BEDSIDE_NO_BOX ? 0 : e.refusal;
 }
 
 static void lapjv(void)
@@ -190,8 +202,9 @@ static void make_boxes(size_t n)
     }
 }
 
-/* Frames of any number of boxes that fits, a new table for each dozen, with and without the options. */
-static size_t frames(void)
+/* Frames of any number of boxes that fits, a new table for each dozen, with and without the options: the most that f
+ * took, update or a question before it. */
+static size_t frames(void (*f)(void))
 {
     size_t most = 0;
     for (size_t k = 0; k < FRAMES; k++) {
@@ -200,7 +213,9 @@ static size_t frames(void)
         settings.use_rich_similarity = settings.use_soft_boost = settings.use_varying_threshold = k >= FRAMES / 2;
         settings.cap_confidence = k % 2 == 0;
         make_boxes((size_t)(chance() * (float)(PLACES + 1 - state.count)));
-        most = larger(most, taken(update));
+        most = larger(most, taken(f));
+        if (f != update)
+            update();
     }
     return most - taken(nothing);
 }
@@ -246,7 +261,9 @@ int main(int count, char **words)
     for (size_t k = 0; k < CELLS; k++)
         costs[k] = cells[k];
     if (strcmp(what, "update") == 0)
-        printf("%zu\n", frames());
+        printf("%zu\n", frames(update));
+    else if (strcmp(what, "why") == 0)
+        printf("%zu\n", frames(why));
     else if (strcmp(what, "others") == 0)
         printf("%zu\n", others());
     else if (strcmp(what, "match_detections") == 0)

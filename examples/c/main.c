@@ -153,8 +153,24 @@ static void frame(tracker *t, const float *boxes, size_t boxes_len, const uint8_
         show_track(bedside_track_at(t->out, k));
 }
 
+/* What the next frame would do with one of its boxes; the tracker is left as it is. */
+static void ask(tracker *t, const float *boxes, size_t boxes_len, const uint8_t *box_labels, size_t box)
+{
+    static const char *const fates[] = {"none", "matched", "started", "under the threshold", "rejected"};
+    const bedside_settings settings = bedside_settings_new(0.6f, 0.3f, 30, 3);
+    bedside_explanation e =
+        bedside_why(settings, t->state, t->floats, BEDSIDE_FLOATS_LEN(PLACES), t->counters,
+                    BEDSIDE_COUNTERS_LEN(PLACES), t->labels, BEDSIDE_LABELS_LEN(PLACES), boxes, boxes_len, box_labels,
+                    boxes_len / BEDSIDE_BOX_FLOATS, t->out, BEDSIDE_OUT_LEN(PLACES), t->work64,
+                    BEDSIDE_WORK64_LEN(PLACES), t->work32, BEDSIDE_WORK32_LEN(PLACES), box);
+    printf("%-15s refusal %u box %u: %s id %u, scores %.6f %.6f %.6f, with %u: %.6f of %.6f over %.6f\n", "why",
+           (unsigned)e.refusal, (unsigned)box, fates[e.fate], (unsigned)e.id, e.score, e.score_dlo, e.score_duo,
+           (unsigned)e.paired_id, e.iou, e.intersection, e.union_area);
+}
+
 /* A sleeper and a partner, who is missed once. A nurse stands before the sleeper, and starts a track of their own; the
- * sleeper is seen again and goes on with the old id. Then a box without width, a label that is none, and more boxes than
+ * sleeper is seen again and goes on with the old id. Before that it is asked what will become of each box, and of one
+ * that is not there. Then a box without width, a label that is none, and more boxes than
  * places are left. */
 static void frames(void)
 {
@@ -177,6 +193,8 @@ static void frames(void)
     frame(&t, second, LENGTH(second), back);
     frame(&t, missed, LENGTH(missed), two);
     frame(&t, fourth, LENGTH(fourth), two);
+    for (size_t box = 0; box < 3; box++)
+        ask(&t, nurse, LENGTH(nurse), with_nurse, box);
     frame(&t, nurse, LENGTH(nurse), with_nurse);
     for (int k = 0; k < 3; k++)
         frame(&t, all, LENGTH(all), three);

@@ -106,8 +106,20 @@ fn show_frame(tracker: &mut Tracker, boxes: &[Detection]) {
     }
 }
 
+/// What the next frame would do with one of its boxes.
+fn show_why(tracker: &mut Tracker, boxes: &[Detection], index: usize) {
+    match tracker.why(boxes, index) {
+        Ok(e) => {
+            let with = e.paired.map_or(String::new(), |p| format!(", with {}: {:.6}", p.id, p.iou));
+            let scores = [e.score, e.score_dlo, e.score_duo];
+            println!("{:15} box {index}: {:?}, scores {scores:?}{with}", "why", e.fate);
+        }
+        Err(refusal) => println!("{:15} {refusal}", "why"),
+    }
+}
+
 /// A sleeper and a partner, who is missed once; frames that are refused, which change nothing; and a nurse who stands
-/// before the sleeper and has a track of their own.
+/// before the sleeper and has a track of their own, which is told before.
 fn frames() {
     let mut tracker = Tracker::with_capacity(Settings::new(0.6, 0.3, 30, 3), 5);
     let sleeper = |left| Detection::new(left, 20.0, 32.0, 64.0, 0.75);
@@ -120,6 +132,7 @@ fn frames() {
     show_frame(&mut tracker, &[sleeper(f32::NAN), partner]);
     show_frame(&mut tracker, &[sleeper(12.0), nobody]);
     show_frame(&mut tracker, &[sleeper(12.0), partner, partner, partner]);
+    (0..3).for_each(|index| show_why(&mut tracker, &[partner, nurse], index));
     show_frame(&mut tracker, &[partner, nurse]);
     show_frame(&mut tracker, &[nurse, sleeper(12.0)]);
     let (frames, held, last) = (tracker.frame_count(), tracker.held_tracks(), tracker.last_id());

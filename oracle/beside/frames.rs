@@ -56,7 +56,7 @@ struct Back {
     work32: Vec<f32>,
 }
 
-fn settings(s: &Settings) -> port::Settings {
+pub fn settings(s: &Settings) -> port::Settings {
     let on = |bit: u64| s.flags & bit != 0;
     let [iou, mhd, shape] = s.lambdas;
     port::Settings {
@@ -92,7 +92,7 @@ fn of_port(input: &Input) -> (Updated, Back) {
 
 // ---- comparisons
 
-fn exactly(a: &[f32], b: &[f32]) -> bool {
+pub fn exactly(a: &[f32], b: &[f32]) -> bool {
     a.len() == b.len() && a.iter().zip(b).all(|(x, y)| x.to_bits() == y.to_bits())
 }
 
@@ -170,8 +170,11 @@ pub fn check(case: &Case) -> Found {
 
 // ---- scenes
 
+/// A comparison of a frame, with which the table goes on; whether the two can.
+type Compare = fn(&mut Table, &Boxes, [usize; 3], &mut Report) -> bool;
+
 /// A frame of a scene; whether the two can go on.
-pub fn frame(table: &mut Table, boxes: &Boxes, lengths: [usize; 3], report: &mut Report) -> bool {
+fn frame(table: &mut Table, boxes: &Boxes, lengths: [usize; 3], report: &mut Report) -> bool {
     let input = Input::new(table, boxes, lengths);
     let found = caught(|| agree(table, &input));
     let same = found.is_ok();
@@ -184,16 +187,16 @@ pub fn frame(table: &mut Table, boxes: &Boxes, lengths: [usize; 3], report: &mut
     same
 }
 
-fn play(scene: &mut Scene, table: &mut Table, report: &mut Report) -> bool {
+fn play(scene: &mut Scene, table: &mut Table, compare: Compare, report: &mut Report) -> bool {
     (0..scene.frames).all(|f| {
         let boxes = scene.boxes(f);
         let lengths = scene.lengths(f, table.state.count as usize, boxes.count());
-        frame(table, &boxes, lengths, report)
+        compare(table, &boxes, lengths, report)
     })
 }
 
 /// A scene of the fixed list with other numbers, its own settings or others, in half with labels; rarely a large one.
-fn scene(random: &Random, report: &mut Report) {
+fn scene(random: &Random, compare: Compare, report: &mut Report) {
     let small = random.pick(&[random.index(72), random.index(72), random.index(72), LABELLED + random.index(6)]);
     let s = if random.one_in(60) { 72 + random.index(8) } else { small };
     let mut scene = scenes::seeded(s, random.word());
@@ -202,7 +205,7 @@ fn scene(random: &Random, report: &mut Report) {
         scene.settings = tables::settings(random);
     }
     let mut table = scene.start();
-    play(&mut scene, &mut table, report);
+    play(&mut scene, &mut table, compare, report);
 }
 
 /// One label everywhere in half of the scenes.
@@ -211,7 +214,7 @@ pub fn labelling(random: &Random) -> Labelling {
 }
 
 /// Scenes of few actors one after the other over one table of 64 places, from empty.
-fn night(random: &Random, report: &mut Report) {
+fn night(random: &Random, compare: Compare, report: &mut Report) {
     let kinds = [0, 1, 2, 3, 10, 0, 1, 2, 3, 10, 4, 5, 11];
     let settings = tables::settings(random);
     let state = State { count: 0, last: 0, frames: 0 };
@@ -221,14 +224,14 @@ fn night(random: &Random, report: &mut Report) {
         scene.settings = settings;
         scene.labelling = labelling(random);
         scene.start();
-        if !play(&mut scene, &mut table, report) {
+        if !play(&mut scene, &mut table, compare, report) {
             return;
         }
     }
 }
 
 /// A few frames from an arbitrary sound table; and now and then a call that is spoiled.
-fn from_table(random: &Random, report: &mut Report) {
+fn from_table(random: &Random, compare: Compare, report: &mut Report) {
     let manner = tables::Manner::new(random);
     let mut table = manner.table(random);
     for _ in 0..1 + random.below(5) {
@@ -237,24 +240,29 @@ fn from_table(random: &Random, report: &mut Report) {
         if random.one_in(4) {
             let mut input = Input::new(&table, &boxes, lengths);
             (0..1 + random.below(3)).for_each(|_| tables::spoil(&mut input, random));
-            frame(&mut input.table(), &input.boxes, input.lengths, report);
+            compare(&mut input.table(), &input.boxes, input.lengths, report);
         }
-        if !frame(&mut table, &boxes, lengths, report) {
+        if !compare(&mut table, &boxes, lengths, report) {
             return;
         }
     }
 }
 
-fn at_limit(random: &Random, report: &mut Report) {
+fn at_limit(random: &Random, compare: Compare, report: &mut Report) {
     let (mut table, boxes) = tables::at_limit(random);
-    frame(&mut table, &boxes, needed(1, 1), report);
+    compare(&mut table, &boxes, needed(1, 1), report);
+}
+
+/// Frames, each compared so.
+pub fn draw(random: &Random, compare: Compare, report: &mut Report) {
+    match random.below(16) {
+        0 => night(random, compare, report),
+        1..5 => scene(random, compare, report),
+        5 => (0..20).for_each(|_| at_limit(random, compare, report)),
+        _ => (0..20).for_each(|_| from_table(random, compare, report)),
+    }
 }
 
 pub fn run(random: &Random, report: &mut Report) {
-    match random.below(16) {
-        0 => night(random, report),
-        1..5 => scene(random, report),
-        5 => (0..20).for_each(|_| at_limit(random, report)),
-        _ => (0..20).for_each(|_| from_table(random, report)),
-    }
+    draw(random, frame, report);
 }

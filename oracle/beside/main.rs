@@ -16,13 +16,14 @@ mod program;
 mod report;
 mod strack;
 mod streams;
+mod why;
 
 use case::Case;
 use oracle::random::Random;
 use report::{Found, Report, caught};
 use std::time::{Duration, Instant};
 
-const KINDS: [&str; 7] = ["floats", "lapjv", "assoc", "strack", "boosts", "frames", "streams"];
+const KINDS: [&str; 8] = ["floats", "lapjv", "assoc", "strack", "boosts", "frames", "why", "streams"];
 
 struct Wanted {
     folder: String,
@@ -85,6 +86,7 @@ fn draw(kind: &str, random: &Random, wanted: &Wanted, report: &mut Report) {
         "strack" => strack::run(random, report),
         "boosts" => boosts::run(random, &wanted.boosts, report),
         "frames" => frames::run(random, report),
+        "why" => why::run(random, report),
         _ => streams::run(random, &wanted.trackbox, report),
     }
 }
@@ -112,6 +114,7 @@ fn replay(file: &str, wanted: &Wanted) -> Found {
         "strack" => strack::check(&case),
         "boosts" => boosts::check(&case, &wanted.boosts),
         "frames" => frames::check(&case),
+        "why" => why::check(&case),
         _ => streams::check(&case, &wanted.trackbox),
     })
 }

@@ -63,6 +63,19 @@ pub struct Updated {
     pub scans: u64,
 }
 
+#[repr(C)]
+pub struct Explanation {
+    pub refusal: u32,
+    pub index: u64,
+    pub fate: u32,
+    pub id: u64,
+    /// As given, after DLO, after DUO.
+    pub scores: [f32; 3],
+    pub paired_id: u64,
+    /// IoU, intersection, union.
+    pub overlap: [f32; 3],
+}
+
 type In = *const f32;
 type Out = *mut f32;
 type List = *mut usize;
@@ -118,4 +131,9 @@ unsafe extern "C" {
         labels: *mut u8, labels_len: usize, boxes: In, boxes_len: usize, box_labels: *const u8, box_labels_len: usize,
         out: *mut u8, out_len: usize, work64: *mut f64, work64_len: usize, work32: Out, work32_len: usize,
     ) -> Updated;
+    pub fn bedside_why(
+        settings: Settings, state: State, floats: In, floats_len: usize, counters: *const u64, counters_len: usize,
+        labels: *const u8, labels_len: usize, boxes: In, boxes_len: usize, box_labels: *const u8, box_labels_len: usize,
+        out: *const u8, out_len: usize, work64: *mut f64, work64_len: usize, work32: Out, work32_len: usize, index: usize,
+    ) -> Explanation;
 }

@@ -29,14 +29,14 @@ pub struct Report {
     /// Frames with row turns: those whose pairing called lapjv.
     pub turned: u64,
     /// How many calls were answered with each number.
-    answers: [u64; 64],
+    answers: [u64; 128],
     shown: Instant,
 }
 
 impl Report {
     pub fn new(kind: &'static str, folder: &str) -> Report {
         let (folder, shown) = (folder.to_string(), Instant::now());
-        Report { kind, folder, passed: 0, failed: 0, not_finite: 0, turned: 0, answers: [0; 64], shown }
+        Report { kind, folder, passed: 0, failed: 0, not_finite: 0, turned: 0, answers: [0; 128], shown }
     }
 
     pub fn inputs(&self) -> u64 {
@@ -70,7 +70,7 @@ impl Report {
 
     /// How many were refused, by number.
     pub fn refusals(&self) -> String {
-        let refused = (1..64).filter(|&k| self.answers[k] > 0);
+        let refused = (1..128).filter(|&k| self.answers[k] > 0);
         let list: Vec<String> = refused.map(|k| format!("{k} in {}", self.answers[k])).collect();
         if list.is_empty() { String::new() } else { format!("; refused: {}", list.join(", ")) }
     }
@@ -79,7 +79,7 @@ impl Report {
         let Report { kind, passed, failed, not_finite, turned, .. } = self;
         let besides = match *kind {
             "frames" => format!(", {not_finite} not finite; with row turns: {turned}"),
-            "boosts" => format!(", {not_finite} not finite"),
+            "boosts" | "why" => format!(", {not_finite} not finite"),
             _ => String::new(),
         };
         format!("{kind}: {passed} passed, {failed} failed{besides}")

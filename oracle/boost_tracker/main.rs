@@ -1,5 +1,6 @@
 //! The published tracker on the scenes and single calls of crates/boost_tracker_vectors; for what the port turns down,
-//! the numbers of the scope document; and for scenes with capped confidences the published records, each capped:
+//! the numbers of the scope document; what it did with boxes that are asked about; and for scenes with capped confidences
+//! the published records, each capped:
 //!
 //!     stdin          the records that it reads
 //!     vectors        what it has to print
@@ -13,12 +14,40 @@ use oracle::lines;
 use oracle::records::Records;
 use oracle::refusals::{self, Single};
 use oracle::scenes::{self, CAPPED, KINDS, SCENES, Scene};
+use oracle::why::told;
 use std::io::Write;
 
 /// What is done with the frames of a scene.
 trait Audience {
     fn begins(&mut self, name: &str, table: &Table);
     fn frame(&mut self, boxes: &Boxes, table: &Table, answer: &Answer, lengths: [usize; 3]);
+    /// The boxes of the next frame that are asked about, from the first on so many.
+    fn asked(&mut self, _: &Boxes, _: &Answer, _: [usize; 3], _: [usize; 2]) {}
+}
+
+/// Asked about are all boxes of a frame and the index behind the last, of frames of a scene that are refused, that have a
+/// fate, or a score that a boost changed: the first two of each kind.
+#[derive(Default)]
+struct Asks([usize; 6]);
+
+impl Asks {
+    fn of(&mut self, boxes: &Boxes, answer: &Answer) -> Option<[usize; 2]> {
+        let stages = &answer.stages;
+        let mut kinds = vec![];
+        if answer.refusal != 0 {
+            kinds.push(0);
+        } else {
+            kinds.extend((0..boxes.count()).map(|b| told(stages, b).fate as usize));
+            kinds.extend((stages.scores[0] != stages.scores[2]).then_some(5));
+        }
+        kinds.sort();
+        kinds.dedup();
+        let wanted = kinds.iter().any(|&k| self.0[k] < 2);
+        if wanted {
+            kinds.iter().for_each(|&k| self.0[k] += 1);
+        }
+        wanted.then_some([0, boxes.count() + 1])
+    }
 }
 
 fn name(scene: &Scene) -> String {
@@ -28,33 +57,37 @@ fn name(scene: &Scene) -> String {
 
 /// Works a scene, and hands each frame on.
 fn play(s: usize, audience: &mut impl Audience) {
-    play_scene(scenes::scene(s), audience);
+    play_scene(scenes::scene(s), Some(Asks::default()), audience);
 }
 
 /// The same scene with confidences capped: the boxes, the lengths and the table are those without.
 fn play_capped(s: usize, audience: &mut impl Audience) {
     let mut scene = scenes::scene(s);
     scene.settings.flags |= CAP;
-    play_scene(scene, audience);
+    play_scene(scene, None, audience);
 }
 
-fn play_scene(mut scene: Scene, audience: &mut impl Audience) {
+fn play_scene(mut scene: Scene, mut asks: Option<Asks>, audience: &mut impl Audience) {
     let mut table = scene.start();
     audience.begins(&name(&scene), &table);
     for f in 0..scene.frames {
         let boxes = scene.boxes(f);
         let lengths = scene.lengths(f, table.state.count as usize, boxes.count());
         let answer = table.update(&boxes, lengths);
+        if let Some(which) = asks.as_mut().and_then(|asks| asks.of(&boxes, &answer)) {
+            audience.asked(&boxes, &answer, lengths, which);
+        }
         audience.frame(&boxes, &table, &answer, lengths);
     }
 }
 
-/// Every scene, every single call and the scenes with capped confidences.
+/// Every scene, every single call, asked about at its last box and behind it, and the scenes with capped confidences.
 fn play_all(audience: &mut impl Audience) {
     (0..SCENES).for_each(|s| play(s, audience));
     for Single { mask, mut table, boxes, lengths } in refusals::all() {
         audience.begins(&format!("edits {mask:x}"), &table);
         let answer = table.update(&boxes, lengths);
+        audience.asked(&boxes, &answer, lengths, [boxes.count().saturating_sub(1), 2]);
         audience.frame(&boxes, &table, &answer, lengths);
     }
     CAPPED.iter().for_each(|&s| play_capped(s, audience));
@@ -73,6 +106,10 @@ impl Audience for Input {
     fn frame(&mut self, boxes: &Boxes, _: &Table, _: &Answer, lengths: [usize; 3]) {
         self.0.frame(boxes, lengths);
     }
+
+    fn asked(&mut self, boxes: &Boxes, _: &Answer, lengths: [usize; 3], which: [usize; 2]) {
+        self.0.ask(boxes, lengths, which);
+    }
 }
 
 #[derive(Default)]
@@ -85,6 +122,10 @@ impl Audience for Lines {
 
     fn frame(&mut self, boxes: &Boxes, table: &Table, answer: &Answer, lengths: [usize; 3]) {
         self.0 += &(lines::frame(boxes, table, answer, lengths) + "\n");
+    }
+
+    fn asked(&mut self, boxes: &Boxes, answer: &Answer, lengths: [usize; 3], [first, count]: [usize; 2]) {
+        (first..first + count).for_each(|index| self.0 += &(lines::asked(boxes, answer, lengths, index) + "\n"));
     }
 }
 

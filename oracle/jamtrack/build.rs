@@ -3,7 +3,8 @@
 fn main() {
     let of_tracker = ["jamtrack/boost_tracker.list", "jamtrack/stages.list", "jamtrack/labels_tracker.list"];
     sources::take("boost_tracker/boost_tracker.rs", &of_tracker);
-    let of_pairing = ["jamtrack/assoc.list", "jamtrack/areas.list", "jamtrack/labels_assoc.list"];
+    let of_pairing =
+        ["jamtrack/assoc.list", "jamtrack/areas.list", "jamtrack/labels_assoc.list", "jamtrack/stages_assoc.list"];
     sources::take("boost_tracker/assoc.rs", &of_pairing);
     sources::take("boost_tracker/strack.rs", &["jamtrack/strack.list"]);
     sources::take("boost_tracker/kalman_filter.rs", &["jamtrack/kalman_filter.list"]);

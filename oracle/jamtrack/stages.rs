@@ -1,10 +1,20 @@
-//! The stages of a frame, as stages.list has them noted down: what the boosts are given, the scores after each, the boxes
-//! that are retained, and the pairs.
+//! The stages of a frame, as stages.list and stages_assoc.list have them noted down: what the boosts are given, the scores
+//! after each, the boxes that are retained, the pairs, and what becomes of each box.
 
 use crate::boost_tracker::assoc::AssignmentResult;
 use crate::boost_tracker::strack::KalmanBoxTracker;
 use nalgebra::DMatrix;
 use std::cell::RefCell;
+
+/// A pair that the assignment or the direct path proposed.
+#[derive(Clone, Copy)]
+pub struct Proposed {
+    /// A retained box, and a track.
+    pub detection: usize,
+    pub track: usize,
+    pub iou: f32,
+    pub stands: bool,
+}
 
 #[derive(Clone, Default)]
 pub struct Stages {
@@ -13,7 +23,8 @@ pub struct Stages {
     pub corners: Vec<[f32; 4]>,
     /// The scores before the boosts, after DLO, and after DUO.
     pub scores: Vec<Vec<f32>>,
-    /// Of the tracks: corners, confidences, times since update, states x, y, h, r, and their variances.
+    /// Of the tracks: ids, corners, confidences, times since update, states x, y, h, r, and their variances.
+    pub ids: Vec<u64>,
     pub tracks: Vec<[f32; 4]>,
     pub confidences: Vec<f32>,
     pub times: Vec<u64>,
@@ -25,6 +36,10 @@ pub struct Stages {
     pub pairs: Vec<(usize, usize)>,
     pub unmatched_boxes: Vec<usize>,
     pub unmatched_tracks: Vec<usize>,
+    pub proposed: Vec<Proposed>,
+    /// A retained box, and the id of the track that was corrected with it, or started from it.
+    pub matched: Vec<(usize, u64)>,
+    pub started: Vec<(usize, u64)>,
 }
 
 thread_local! {
@@ -41,6 +56,7 @@ pub fn begun(tracks: &[KalmanBoxTracker], frames: usize, dets: &[[f32; 5]], trks
         frames: frames as u64,
         corners: dets.iter().map(|d| [d[0], d[1], d[2], d[3]]).collect(),
         scores: vec![scores(dets)],
+        ids: tracks.iter().map(|t| t.id() as u64).collect(),
         tracks: trks.to_vec(),
         confidences: confs.to_vec(),
         times: tracks.iter().map(|t| t.time_since_update() as u64).collect(),
@@ -64,6 +80,27 @@ pub fn paired(retained: &[usize], distances: &DMatrix<f32>, result: &AssignmentR
         noted.unmatched_boxes = result.unmatched_detections.clone();
         noted.unmatched_tracks = result.unmatched_tracks.clone();
     });
+}
+
+/// Nothing is noted down of a call that is no frame's.
+fn of_frame(note: impl FnOnce(&mut Stages)) {
+    NOTED.with_borrow_mut(|noted| {
+        if noted.frames > 0 {
+            note(noted);
+        }
+    });
+}
+
+pub fn judged(detection: usize, track: usize, iou: f32, stands: bool) {
+    of_frame(|noted| noted.proposed.push(Proposed { detection, track, iou, stands }));
+}
+
+pub fn matched(detection: usize, id: usize) {
+    of_frame(|noted| noted.matched.push((detection, id as u64)));
+}
+
+pub fn started(detection: usize, id: usize) {
+    of_frame(|noted| noted.started.push((detection, id as u64)));
 }
 
 /// What was noted down of the last frame.

@@ -20,3 +20,4 @@ pub mod scenes;
 pub mod streams;
 pub mod tables;
 pub mod verdict;
+pub mod why;

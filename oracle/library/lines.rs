@@ -1,10 +1,11 @@
-//! What crates/boost_tracker_vectors has to print of a table and of a frame.
+//! What crates/boost_tracker_vectors has to print of a table, of a frame and of a box that is asked about.
 
 use crate::boxes::Boxes;
-use crate::digest::Digest;
+use crate::digest::{Digest, bits};
 use crate::frame::{Answer, Table};
 use crate::records::{table_words, title};
 use crate::verdict::State;
+use crate::why::told;
 
 /// What the lent output bytes and work slices hold before a call.
 pub const BYTE: u8 = 7;
@@ -18,9 +19,13 @@ fn table_digest(table: &Table) -> Digest {
 fn lent_digest(answer: &Answer, [out, work64, work32]: [usize; 3]) -> Digest {
     let mut bytes: Vec<u8> = answer.records.iter().flat_map(|r| r.bytes()).collect();
     bytes.resize(out, BYTE);
-    let work = if answer.refusal == 0 { 0.0 } else { WORK };
-    let records = Digest::new().bytes(&bytes);
-    records.words(std::iter::repeat_n((work as f64).to_bits(), work64)).floats(&vec![work; work32])
+    work_digest(Digest::new().bytes(&bytes), answer.refusal, work64, work32)
+}
+
+/// What a call with this refusal leaves of the work slices.
+fn work_digest(before: Digest, refusal: u32, work64: usize, work32: usize) -> Digest {
+    let work = if refusal == 0 { 0.0 } else { WORK };
+    before.words(std::iter::repeat_n((work as f64).to_bits(), work64)).floats(&vec![work; work32])
 }
 
 /// A table that is lent: digests of its words and of its cells.
@@ -44,4 +49,19 @@ pub fn frame(boxes: &Boxes, table: &Table, answer: &Answer, lengths: [usize; 3])
         table_digest(table).0,
         lent_digest(answer, lengths).0,
     )
+}
+
+/// A box of a frame that is asked about: the refusal, the frame's or 81; fate and id, the three scores, and the track that
+/// it was paired with; the work slices.
+pub fn asked(boxes: &Boxes, answer: &Answer, [_, work64, work32]: [usize; 3], index: usize) -> String {
+    let none = answer.refusal == 0 && index >= boxes.count();
+    let (refusal, at) = if none { (81, 0) } else { (answer.refusal, answer.index) };
+    let text = if refusal == 0 { explained(answer, index) } else { String::new() };
+    format!("box {index} | {refusal} {at}{text} | {:016x}", work_digest(Digest::new(), refusal, work64, work32).0)
+}
+
+fn explained(answer: &Answer, index: usize) -> String {
+    let told = told(&answer.stages, index);
+    let floats = |list: &[f32; 3]| list.map(|x| format!(" {:08x}", bits(x))).concat();
+    format!(" | {} {} |{} | {}{}", told.fate, told.id, floats(&told.scores), told.paired_id, floats(&told.overlap))
 }

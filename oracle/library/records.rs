@@ -63,6 +63,16 @@ impl Records {
         self.floats(&boxes.values);
         self.bytes(&boxes.labels);
     }
+
+    /// Questions about boxes of such a frame, from the first on so many; the table is left.
+    pub fn ask(&mut self, boxes: &Boxes, lengths: [usize; 3], [first, count]: [usize; 2]) {
+        self.words(&[2]);
+        self.numbers(&[boxes.values.len(), boxes.labels.len()]);
+        self.numbers(&lengths);
+        self.numbers(&[first, count]);
+        self.floats(&boxes.values);
+        self.bytes(&boxes.labels);
+    }
 }
 
 /// How many floats and counters of a table are before the 7s at its end.

@@ -1,6 +1,8 @@
-//! The program trackbox by the published tracker and the scope document's rules, and the streams that it is run on.
+//! The programs trackbox and why by the published tracker and the scope document's rules, and the streams that the first
+//! is run on.
 //!
 //!     stdin          reads box records, prints what trackbox has to print
+//!     why FRAME BOX  reads box records, prints what why has to print for that frame and that box
 //!     list           a line for each stream
 //!     streams DIR    writes each stream to DIR/NAME.boxes and what has to be printed for it to DIR/NAME.lines
 
@@ -25,16 +27,22 @@ fn write(folder: &str) {
     }
 }
 
+fn stdin() -> Vec<u8> {
+    let mut bytes = Vec::new();
+    std::io::stdin().read_to_end(&mut bytes).expect("box records");
+    bytes
+}
+
 fn main() {
     let words: Vec<String> = std::env::args().skip(1).collect();
     match words.iter().map(|w| w.as_str()).collect::<Vec<_>>()[..] {
-        ["stdin"] => {
-            let mut bytes = Vec::new();
-            std::io::stdin().read_to_end(&mut bytes).expect("box records");
-            print!("{}", rules::printed(&bytes));
+        ["stdin"] => print!("{}", rules::printed(&stdin())),
+        ["why", frame, index] => {
+            let (frame, index) = (frame.parse().expect("a frame"), index.parse().expect("a box"));
+            print!("{}", rules::explained(&stdin(), frame, index));
         }
         ["list"] => list(),
         ["streams", folder] => write(folder),
-        _ => panic!("stdin, list or streams DIR"),
+        _ => panic!("stdin, why FRAME BOX, list or streams DIR"),
     }
 }

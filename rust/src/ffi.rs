@@ -118,6 +118,22 @@ pub struct UpdateAnswer {
     pub scans: u64,
 }
 
+#[derive(Clone, Copy)]
+#[repr(C)]
+pub struct Explanation {
+    pub refusal: u32,
+    pub index: u64,
+    pub fate: u32,
+    pub id: u64,
+    pub score: f32,
+    pub score_dlo: f32,
+    pub score_duo: f32,
+    pub paired_id: u64,
+    pub iou: f32,
+    pub intersection: f32,
+    pub union_area: f32,
+}
+
 // SAFETY: the declarations are the header's, as the test below sees. The safe ones take and give values alone,
 // and the library is proved to accept every value.
 unsafe extern "C" {
@@ -188,6 +204,12 @@ unsafe extern "C" {
         box_labels: *const u8, box_labels_len: usize, out: *mut u8, out_len: usize, work64: *mut f64,
         work64_len: usize, work32: *mut f32, work32_len: usize,
     ) -> UpdateAnswer;
+    unsafe fn bedside_why(
+        settings: Settings, state: State, floats: *const f32, floats_len: usize, counters: *const u64,
+        counters_len: usize, labels: *const u8, labels_len: usize, boxes: *const f32, boxes_len: usize,
+        box_labels: *const u8, box_labels_len: usize, out: *const u8, out_len: usize, work64: *mut f64,
+        work64_len: usize, work32: *mut f32, work32_len: usize, index: usize,
+    ) -> Explanation;
 }
 
 pub fn convert_bbox_to_z(bbox: &[f32; 4]) -> [f32; 4] {
@@ -419,6 +441,36 @@ pub fn update(settings: Settings, state: State, lent: Lent<'_>) -> UpdateAnswer 
             w.len(),
             v.as_mut_ptr(),
             v.len(),
+        )
+    }
+}
+
+/// The table and the output are read alone.
+pub fn why(settings: Settings, state: State, lent: Lent<'_>, index: usize) -> Explanation {
+    let Lent { floats: f, counters: c, labels: l, boxes: b, box_labels: k, .. } = lent;
+    let (o, w, v) = (lent.out, lent.work64, lent.work32);
+    // SAFETY: each slice goes with its own length.
+    unsafe {
+        bedside_why(
+            settings,
+            state,
+            f.as_ptr(),
+            f.len(),
+            c.as_ptr(),
+            c.len(),
+            l.as_ptr(),
+            l.len(),
+            b.as_ptr(),
+            b.len(),
+            k.as_ptr(),
+            k.len(),
+            o.as_ptr(),
+            o.len(),
+            w.as_mut_ptr(),
+            w.len(),
+            v.as_mut_ptr(),
+            v.len(),
+            index,
         )
     }
 }

@@ -53,10 +53,12 @@ pub mod lapjv;
 mod refusal;
 mod settings;
 mod tracker;
+mod why;
 
 pub use refusal::Refusal;
 pub use settings::Settings;
 pub use tracker::{Detection, Label, Track, Tracker, Tracks};
+pub use why::{Explanation, Fate, Paired};
 
 /// How long the assignment of a call took: the passes of its two outer loops that nothing else bounds. Both are
 /// 0 where boxes and tracks were paired without it.

@@ -1,11 +1,12 @@
-//! Why a frame is turned down.
+//! Why a frame is turned down, or a question about one of its boxes.
 
 use core::fmt;
 
-/// Why a frame is turned down. It then changed nothing, and the tracker can be used on.
+/// Why a frame is turned down, or a question about one of its boxes. The call then changed nothing, and the tracker
+/// can be used on.
 ///
 /// Each variant is a number of the scope document, which [`number`](Refusal::number) gives. Where several apply,
-/// the first of 11, 10, 12 to 16, 20, 17 to 19 is said. A [`Tracker`](crate::Tracker) keeps its table sound and
+/// the first of 11, 10, 12 to 16, 20, 17 to 19, 81 is said. A [`Tracker`](crate::Tracker) keeps its table sound and
 /// has memory for every frame that fits into it, so it is not turned down with 10, 11, 18 or 19; they are here
 /// because the library knows them.
 #[derive(Clone, Copy, Debug, PartialEq, Eq, Hash)]
@@ -41,10 +42,12 @@ pub enum Refusal {
         /// The lowest index of such a box.
         index: usize,
     },
+    /// 81: the index is not below the number of boxes, of [`Tracker::why`](crate::Tracker::why) alone.
+    NoBox,
 }
 
 impl Refusal {
-    /// The number of the refusal, 10 to 20.
+    /// The number of the refusal, 10 to 20 or 81.
     ///
     /// ```
     /// assert_eq!(bedside::Refusal::BadBox { index: 3 }.number(), 16);
@@ -62,6 +65,7 @@ impl Refusal {
             Refusal::OutputShort => 18,
             Refusal::WorkShort => 19,
             Refusal::BoxNotLabelled { .. } => 20,
+            Refusal::NoBox => 81,
         }
     }
 
@@ -79,6 +83,7 @@ impl Refusal {
             18 => Refusal::OutputShort,
             19 => Refusal::WorkShort,
             20 => Refusal::BoxNotLabelled { index: index as usize },
+            81 => Refusal::NoBox,
             _ => unreachable!("libbedside.a is not this crate's: a frame has no refusal {number}"),
         }
     }
@@ -99,6 +104,7 @@ impl fmt::Display for Refusal {
             Refusal::OutputShort => f.write_str("the output is shorter than held tracks and boxes need"),
             Refusal::WorkShort => f.write_str("a work slice is too short"),
             Refusal::BoxNotLabelled { index } => write!(f, "box {index} has a label other than 1 to 3"),
+            Refusal::NoBox => f.write_str("the frame has no box of this index"),
         }
     }
 }
@@ -112,7 +118,7 @@ mod tests {
 
     #[test]
     fn a_number_and_its_refusal() {
-        for number in 10..=20 {
+        for number in (10..=20).chain([81]) {
             let refusal = Refusal::of(number, 7);
             assert_eq!(refusal.number(), number);
             assert!(refusal.to_string().starts_with(&std::format!("refused {number}: ")));

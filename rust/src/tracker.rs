@@ -1,6 +1,6 @@
 //! The tracker, the boxes that it takes and the tracks that it puts out.
 
-use crate::{ffi, Counts, Refusal, Settings};
+use crate::{ffi, Counts, Explanation, Refusal, Settings};
 use alloc::boxed::Box;
 use alloc::vec;
 use core::fmt;
@@ -295,6 +295,36 @@ impl Tracker {
         let records = &self.memory.out[..Track::RECORD_LEN * answer.emitted as usize];
         let counts = Counts { turns: answer.turns, scans: answer.scans };
         Ok(Tracks { records, left: records.chunks_exact(Track::RECORD_LEN), counts })
+    }
+
+    /// What the next frame would do with box `index` of these boxes: which track it would go to or start, or why it
+    /// would be dropped. Nothing is worked: table, frame count and the last frame's records stay as they are.
+    ///
+    /// ```
+    /// use bedside::{Detection, Fate, Settings, Tracker};
+    ///
+    /// let mut tracker = Tracker::new(Settings::new(0.6, 0.3, 30, 3));
+    /// let sleeper = Detection::new(10.0, 20.0, 32.0, 64.0, 0.75);
+    /// tracker.update(&[sleeper])?;
+    ///
+    /// let boxes = [sleeper, Detection::new(200.0, 20.0, 32.0, 64.0, 0.75)];
+    /// assert_eq!(tracker.why(&boxes, 0)?.fate, Fate::Matched { id: 1 });
+    /// assert_eq!(tracker.why(&boxes, 1)?.fate, Fate::Started { id: 2 });
+    /// assert_eq!(tracker.frame_count(), 1);
+    /// # Ok::<(), bedside::Refusal>(())
+    /// ```
+    ///
+    /// # Errors
+    ///
+    /// Why a frame with these boxes would be turned down; then [`Refusal::NoBox`] for an index that is not below
+    /// their number.
+    pub fn why(&mut self, boxes: &[Detection], index: usize) -> Result<Explanation, Refusal> {
+        let lent = self.memory.lend(self.held_tracks(), boxes);
+        let answer = ffi::why(self.settings.0, self.state, lent, index);
+        if answer.refusal != 0 {
+            return Err(Refusal::of(answer.refusal, answer.index));
+        }
+        Ok(Explanation::of(&answer))
     }
 
     /// The frames worked so far, which is the number of the last one.

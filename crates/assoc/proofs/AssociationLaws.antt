@@ -202,13 +202,13 @@ paired-up n m t l cells₀ {k} {cost} {iou} {cells} {cells′} {call} h d e same
 
 -- an assignment answers by itself what associate's early returns do
 early : (ok : Pair → Bool) (cost : List Float) (n m : ℕ) (t : Float)
-    → assignedBy ok cost n m t ≡ cond (eqb m 0) (assignment [] (indices n) [] 0 0) (cond (eqb n 0) (assignment [] [] (indices m) 0 0) (assignedBy ok cost n m t))
+    → assignedBy ok cost n m t ≡ cond (eqb m 0) (assignment [] (indices n) [] [] 0 0) (cond (eqb n 0) (assignment [] [] (indices m) [] 0 0) (assignedBy ok cost n m t))
 unfolding assignedBy tab
 early ok cost n m t = by-cases (eqb n 0) refl (eqb m 0) refl
   where
     by-cases : (a : Bool) → eqb n 0 ≡ a → (b : Bool) → eqb m 0 ≡ b
-        → cond a (assignment [] [] (indices m) 0 0) (cond b (assignment [] (indices n) [] 0 0) (validated ok n m (matchDetections cost n m t)))
-        ≡ cond b (assignment [] (indices n) [] 0 0) (cond a (assignment [] [] (indices m) 0 0) (cond a (assignment [] [] (indices m) 0 0) (cond b (assignment [] (indices n) [] 0 0) (validated ok n m (matchDetections cost n m t)))))
+        → cond a (assignment [] [] (indices m) [] 0 0) (cond b (assignment [] (indices n) [] [] 0 0) (validated ok n m (matchDetections cost n m t)))
+        ≡ cond b (assignment [] (indices n) [] [] 0 0) (cond a (assignment [] [] (indices m) [] 0 0) (cond a (assignment [] [] (indices m) [] 0 0) (cond b (assignment [] (indices n) [] [] 0 0) (validated ok n m (matchDetections cost n m t)))))
     by-cases true e true f = rw (eqb-true n 0 e, eqb-true m 0 f)
     by-cases true e false f = refl
     by-cases false e true f = refl

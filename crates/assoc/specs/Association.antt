@@ -41,8 +41,8 @@ associateBy same params numDets numTrks detections tracks mahalanobisDistance tr
     let like : ℕ → ℕ → Bool = alike same boxLabels trackLabels in
     let iou : List Float = ious like numDets numTrks detections tracks in
     let cost : List Float = costs like params numDets numTrks detections tracks trackConfidence detectionConfidence mhSim in
-    cond (eqb numTrks 0) (assignment [] (indices numDets) [] 0 0)
-    (cond (eqb numDets 0) (assignment [] [] (indices numTrks) 0 0)
+    cond (eqb numTrks 0) (assignment [] (indices numDets) [] [] 0 0)
+    (cond (eqb numDets 0) (assignment [] [] (indices numTrks) [] 0 0)
     (assignedBy (stands like iou numTrks (params .«iou_threshold»)) cost numDets numTrks (params .«iou_threshold»)))
 
 abbrev pub associate : AssociateParams → ℕ → ℕ → List Float → List Float → List Float → List Float → List Float → List ℕ → List ℕ → Assignment

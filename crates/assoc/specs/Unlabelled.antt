@@ -22,8 +22,8 @@ associateUnlabelled params numDets numTrks detections tracks mahalanobisDistance
     let mhSim : ℕ → ℕ → Float = mhDistSimilarity mahalanobisDistance one numDets numTrks in
     let iou : List Float = grid (iouBatch detections tracks) numDets numTrks [] in
     let cost : List Float = grid (costMatrix params detections tracks trackConfidence detectionConfidence mhSim) numDets numTrks [] in
-    cond (eqb numTrks 0) (assignment [] (indices numDets) [] 0 0)
-    (cond (eqb numDets 0) (assignment [] [] (indices numTrks) 0 0)
+    cond (eqb numTrks 0) (assignment [] (indices numDets) [] [] 0 0)
+    (cond (eqb numDets 0) (assignment [] [] (indices numTrks) [] 0 0)
     (linearAssignment iou cost numDets numTrks (params .«iou_threshold»)))
 
 -- by the rule that tells no two labels apart the definition is that one

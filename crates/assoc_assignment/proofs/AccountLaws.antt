@@ -2,12 +2,13 @@
 use mathlib.Core.Path.{_≡_, refl, sym, ap, _∙_}
 use mathlib.Core.List.{List, [], _++_, map, append-nil}
 use mathlib.Core.Bool.{Bool, true, false, cond, not, _||_}
-use Prim.Native.Nat.{ℕ, _+_, _≤_, _<_}
+use Prim.Native.Nat.{ℕ, _+_, _-_, _≤_, _<_}
 use native.Mathlib.Omega.{arith}
 use lib.Dec.{ltb, eqb}
 use lib.Ieee.{Float}
-use lib.ListN.{length, length-append, length-map, getD, List·getD-map}
-use borrow.Author.Tests.{ltb-true, ltb-false, eqb-true}
+use lib.ListN.{length, length-append, length-map, getD, drop, List·getD-map}
+use lib.Seq.{drop-at}
+use borrow.Author.Tests.{ltb-true, ltb-false, eqb-true, not-true}
 use Rattle.laws.specs.Tab.{tab, indices}
 use Rattle.laws.specs.Sieve.{sieve, sieve-all, sieve-at, sieve-agree}
 use Rattle.laws.specs.Elem.{elem, elem-occurs}
@@ -33,7 +34,7 @@ module _ (ok : Pair → Bool) (cost : List Float) (n m : ℕ) (t : Float) where
   unfolding matchDetections
   none-matched e = rw e
 
-  validated-none : validated ok n m (matched [] 0 0) ≡ assignment [] (indices n) (indices m) 0 0
+  validated-none : validated ok n m (matched [] 0 0) ≡ assignment [] (indices n) (indices m) [] 0 0
   unfolding sieve
   validated-none = rw (unmatched-all n, unmatched-all m, append-nil (indices n), append-nil (indices m))
 
@@ -42,7 +43,7 @@ module _ (ok : Pair → Bool) (cost : List Float) (n m : ℕ) (t : Float) where
   assigned-is = by-cases (eqb n 0) refl (eqb m 0) refl
     where
       by-cases : (a : Bool) → eqb n 0 ≡ a → (b : Bool) → eqb m 0 ≡ b
-          → cond a (assignment [] [] (indices m) 0 0) (cond b (assignment [] (indices n) [] 0 0) (validated ok n m (matchDetections cost n m t))) ≡ validated ok n m (matchDetections cost n m t)
+          → cond a (assignment [] [] (indices m) [] 0 0) (cond b (assignment [] (indices n) [] [] 0 0) (validated ok n m (matchDetections cost n m t))) ≡ validated ok n m (matchDetections cost n m t)
       by-cases true e b f = sym (ap (validated ok n m) (none-matched (rw e)) ∙ validated-none ∙ rw (no-indices (eqb-true n 0 e)))
       by-cases false e true f = sym (ap (validated ok n m) (none-matched (rw (e, f))) ∙ validated-none ∙ rw (no-indices (eqb-true m 0 f)))
       by-cases false e false f = refl
@@ -76,6 +77,12 @@ part-back n xs ys h = distinct n ys (λ (b : ℕ). omega (arith, occurs-append b
 parts-many : (g : Pair → ℕ) (n : ℕ) (ps : List Pair) (ys : List ℕ) → ((b : ℕ) → occurs b (map g ps ++ ys) ≡ bit (ltb b n)) → length ps + length ys ≡ n
 parts-many g n ps ys h = ap (λ (k : ℕ). k + length ys) (sym (length-map ps g)) ∙ sym (length-append (map g ps) ys) ∙ occurs-all (map g ps ++ ys) n h
 
+-- what is pushed behind a list is its last
+last-are : (g : Pair → ℕ) (us : List ℕ) (ps : List Pair) → drop (length (us ++ map g ps) - length ps) (us ++ map g ps) ≡ map g ps
+last-are g us ps =
+    let front : length us ≡ length (us ++ map g ps) - length ps = omega (arith, length-append us (map g ps), length-map ps g) in
+    drop-at us (map g ps) (length (us ++ map g ps) - length ps) front
+
 module _ (ok : Pair → Bool) (cost : List Float) (n m : ℕ) (t : Float) (few-rows : n ≤ 255) (few-cols : m ≤ 255) where
   validated-accounted : Accounted ok n m (validated ok n m (matchDetections cost n m t))
   validated-accounted =
@@ -95,6 +102,9 @@ module _ (ok : Pair → Bool) (cost : List Float) (n m : ℕ) (t : Float) (few-r
         unmatched-boxes-once = part-back n (boxesOf (sieve ok ps)) (unmatched (boxesOf ps) n ++ boxesOf (sieve (λ p. not (ok p)) ps)) b;
         unmatched-tracks-once = part-back m (tracksOf (sieve ok ps)) (unmatched (tracksOf ps) m ++ tracksOf (sieve (λ p. not (ok p)) ps)) c;
         stands = λ (k : ℕ) (h : k < length (sieve ok ps)). sieve-at ok ps k (pair 0 0) h;
+        falls = λ (k : ℕ) (h : k < length (sieve (λ p. not (ok p)) ps)). not-true (ok (getD (sieve (λ p. not (ok p)) ps) k (pair 0 0))) (sieve-at (λ p. not (ok p)) ps k (pair 0 0) h);
+        rejected-boxes = last-are (λ (p : Pair). p .box) (unmatched (boxesOf ps) n) (sieve (λ p. not (ok p)) ps);
+        rejected-tracks = last-are (λ (p : Pair). p .track) (unmatched (tracksOf ps) m) (sieve (λ p. not (ok p)) ps);
         turns = o .turns;
         scans = o .scans;
       }

@@ -73,9 +73,9 @@ runs {ps} {n} {m} {dets} {trks} w p q = record {
   second = rw (unmarked (tracksOf ps) m trks (w .tracks-are)) at q;
 }
 
-leaving-same : {r : Left} {a b : ℕ} {boxes tracks boxes′ tracks′ : List ℕ} → r .boxes ≡ a → r .tracks ≡ b → boxes ≡ boxes′ → tracks ≡ tracks′
-    → leavingWith r boxes tracks ≡ leavingWith (record { boxes = a; tracks = b }) boxes′ tracks′
-leaving-same e f g h = rw (← e, ← f, g, h)
+leaving-same : {r : Left} {a b d : ℕ} {boxes tracks boxes′ tracks′ : List ℕ} → r .boxes ≡ a → r .tracks ≡ b → r .rejected ≡ d → boxes ≡ boxes′ → tracks ≡ tracks′
+    → leavingWith r boxes tracks ≡ leavingWith (record { boxes = a; tracks = b; rejected = d }) boxes′ tracks′
+leaving-same e f k g h = rw (← e, ← f, ← k, g, h)
 
 module _ (ok : Pair → Bool) (ps : List Pair) (n m : ℕ) {boxes₀ tracks₀ : List ℕ} {a b : ℕ} {boxes tracks : List ℕ} where
   -- there is room for the rejected pairs behind them
@@ -99,7 +99,7 @@ module _ (ok : Pair → Bool) (ps : List Pair) (n m : ℕ) {boxes₀ tracks₀ :
   left-over w o =
       let p = o .boxes-are _ _ (w .first) in
       let q = o .tracks-are _ _ (w .second) in
-      leaving-same (p .many) (q .many) (p .cells) (q .cells)
+      leaving-same (p .many) (q .many) (o .rejected-are) (p .cells) (q .cells)
 
 module _ (ps : List Pair) (a b : ℕ) (boxes tracks : List ℕ) where
   -- the parts that are lent for them have the room
@@ -110,8 +110,8 @@ module _ (ps : List Pair) (a b : ℕ) (boxes tracks : List ℕ) where
   }
 
   pub tails : {k : ℕ} {ub ut : List ℕ} → Wrote ps (take (length boxes - a) (drop a boxes)) (take (length tracks - b) (drop b tracks)) k ub ut
-      → Tails ps a b boxes tracks (record { boxes = a + k; tracks = b + k }) (putMid a (length boxes - a) boxes ub) (putMid b (length tracks - b) tracks ut)
-  tails o = record { boxes-are = λ l us w. push-tail w (o .boxes-are); tracks-are = λ l us w. push-tail w (o .tracks-are) }
+      → Tails ps a b boxes tracks (record { boxes = a + k; tracks = b + k; rejected = k }) (putMid a (length boxes - a) boxes ub) (putMid b (length tracks - b) tracks ut)
+  tails o = record { boxes-are = λ l us w. push-tail w (o .boxes-are); tracks-are = λ l us w. push-tail w (o .tracks-are); rejected-are = wrote-many o }
 
 -- ---- room
 
@@ -142,12 +142,12 @@ left-room ok n m partner w r = left-as (w .long) (record {
 pub both-listed : (ok : Pair → Bool) (n m : ℕ) (ps : List Pair) (lists : Lists) {l k : ℕ} {pb pt boxes tracks : List ℕ} {r : Left} → l ≡ n
     → Wrote (sieve ok ps) (lists .pairBoxes) (lists .pairTracks) k pb pt
     → leavingWith r boxes tracks ≡ leaving ok ps l m (lists .unmatchedDetections) (lists .unmatchedTracks)
-    → listingWith (record { pairs = k; boxes = r .boxes; tracks = r .tracks }) (listsWith pb pt boxes tracks) ≡ listing (validated ok n m (matched ps 0 0)) lists
+    → listingWith (record { pairs = k; boxes = r .boxes; tracks = r .tracks; rejected = r .rejected }) (listsWith pb pt boxes tracks) ≡ listing (validated ok n m (matched ps 0 0)) lists
 both-listed ok n m ps lists {l} {k} {pb} {pt} {boxes} {tracks} {r} e o v =
     let kept : List Pair = sieve ok ps in
     let w : leavingWith r boxes tracks ≡ leaving ok ps n m (lists .unmatchedDetections) (lists .unmatchedTracks) = rw e at v in
     rw (wrote-many o, o .boxes-are .cells, o .tracks-are .cells)
-    (ap (λ (x : Leaving). listingWith (record { pairs = length kept; boxes = x .many .boxes; tracks = x .many .tracks })
+    (ap (λ (x : Leaving). listingWith (record { pairs = length kept; boxes = x .many .boxes; tracks = x .many .tracks; rejected = x .many .rejected })
     (listsWith (over (boxesOf kept) (lists .pairBoxes)) (over (tracksOf kept) (lists .pairTracks)) (x .boxes) (x .tracks))) w)
 
 -- ---- the whole
@@ -160,10 +160,10 @@ module _ (cost : List Float) (n m : ℕ) (t : Float) (few-rows : n ≤ 255) (few
 
   pub assignment-done : (ok : Pair → Bool) (l : Lent) {r : Counts} {partner : List ℕ} {lists : Lists} {work : List Float} {k : Lengths} → Partnered cost n m t r partner
       → listingWith k lists ≡ listing (validated ok n m (matched (held m partner) 0 0)) (l .lists) → work ≡ zeroed (l .work)
-      → callWith (Assigned (record { pairs = k .pairs; detections = k .boxes; tracks = k .tracks; turns = r .turns; scans = r .scans })) (record { lists = lists; work = work })
+      → callWith (Assigned (record { pairs = k .pairs; detections = k .boxes; tracks = k .tracks; rejected = k .rejected; turns = r .turns; scans = r .scans })) (record { lists = lists; work = work })
       ≡ callWith (Assigned (assignmentCounts (assignedBy ok cost n m t))) (lentAfter (assignedBy ok cost n m t) l)
   assignment-done ok l {r} {partner} {lists} {work} {k} w o z =
       let a : Assignment = validated ok n m (matchDetections cost n m t) in
       let q : listingWith k lists ≡ listing a (l .lists) = rw (held-matches cost n m t few-rows few-cols w) at o in
       rw (assigned-is ok cost n m t, turns-are cost n m t few-rows few-cols w, scans-are cost n m t few-rows few-cols w, z)
-      (ap (λ (x : Listing). callWith (Assigned (record { pairs = x .many .pairs; detections = x .many .boxes; tracks = x .many .tracks; turns = a .turns; scans = a .scans })) (record { lists = x .lists; work = zeroed (l .work) })) q)
+      (ap (λ (x : Listing). callWith (Assigned (record { pairs = x .many .pairs; detections = x .many .boxes; tracks = x .many .tracks; rejected = x .many .rejected; turns = a .turns; scans = a .scans })) (record { lists = x .lists; work = zeroed (l .work) })) q)

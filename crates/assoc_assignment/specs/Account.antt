@@ -1,10 +1,10 @@
 -- What is proved of the definition alone, for at most 255 boxes and 255 tracks and floats of any bit patterns: every box and every track is accounted for.
 use mathlib.Core.Path.{_≡_}
 use mathlib.Core.List.{_++_}
-use mathlib.Core.Bool.{Bool, true}
+use mathlib.Core.Bool.{Bool, true, false}
 use Prim.Native.Nat.{ℕ, _+_, _-_, _*_, _/_, _≤_, _<_, max}
 use lib.Dec.{ltb}
-use lib.ListN.{length, getD}
+use lib.ListN.{length, getD, drop}
 use Rattle.laws.specs.Count.{bit}
 use Rattle.laws.specs.Occurs.{occurs}
 use Rattle.assoc_matching.specs.Matching.{Pair, pair, boxesOf, tracksOf}
@@ -25,6 +25,10 @@ pub record Accounted (ok : Pair → Bool) (boxes tracks : ℕ) (a : Assignment) 
   pub unmatched-tracks-once : Distinct tracks (a .unmatchedTracks)
   -- every pair stands
   pub stands : (k : ℕ) → k < length (a .matches) → ok (getD (a .matches) k (pair 0 0)) ≡ true
+  -- the rejected pairs do not, and they are the last of both unmatched lists
+  pub falls : (k : ℕ) → k < length (a .rejected) → ok (getD (a .rejected) k (pair 0 0)) ≡ false
+  pub rejected-boxes : drop (length (a .unmatchedDetections) - length (a .rejected)) (a .unmatchedDetections) ≡ boxesOf (a .rejected)
+  pub rejected-tracks : drop (length (a .unmatchedTracks) - length (a .rejected)) (a .unmatchedTracks) ≡ tracksOf (a .rejected)
   -- the counts of lapjv on the larger side
   pub turns : a .turns ≤ 2 * max boxes tracks * (max boxes tracks - 1)
   pub scans : a .scans ≤ max boxes tracks * (max boxes tracks - 1) / 2

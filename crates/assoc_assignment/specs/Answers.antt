@@ -65,10 +65,10 @@ lentAfter a l = record { lists = listed a (l .lists); work = zeroed (l .work) }
 -- ---- what an answer says
 
 abbrev pub assignmentCounts : Assignment → AssignmentCounts
-assignmentCounts a = record { pairs = length (a .matches); detections = length (a .unmatchedDetections); tracks = length (a .unmatchedTracks); turns = a .turns; scans = a .scans }
+assignmentCounts a = record { pairs = length (a .matches); detections = length (a .unmatchedDetections); tracks = length (a .unmatchedTracks); rejected = length (a .rejected); turns = a .turns; scans = a .scans }
 
 abbrev pub noCounts : AssignmentCounts
-noCounts = record { pairs = 0; detections = 0; tracks = 0; turns = 0; scans = 0 }
+noCounts = record { pairs = 0; detections = 0; tracks = 0; rejected = 0; turns = 0; scans = 0 }
 
 abbrev pub assignmentNumber : AssignmentAnswer → ℕ
 assignmentNumber (Assigned c) = 0

@@ -10,17 +10,18 @@ use Rattle.laws.specs.Sieve.{sieve}
 use Rattle.laws.specs.Elem.{elem}
 use Rattle.assoc_matching.specs.Matching.{Pair, boxesOf, tracksOf, Matched, matchDetections}
 
--- AssignmentResult, and the counts that the port adds
+-- AssignmentResult; and what the port adds: the pairs that the loop rejected, and the counts
 pub record Assignment : Type 0 where
   pub matches : List Pair
   pub unmatchedDetections : List ℕ
   pub unmatchedTracks : List ℕ
+  pub rejected : List Pair
   pub turns : ℕ
   pub scans : ℕ
 
-abbrev pub assignment : List Pair → List ℕ → List ℕ → ℕ → ℕ → Assignment
-assignment matches unmatchedDetections unmatchedTracks turns scans =
-    record { matches = matches; unmatchedDetections = unmatchedDetections; unmatchedTracks = unmatchedTracks; turns = turns; scans = scans }
+abbrev pub assignment : List Pair → List ℕ → List ℕ → List Pair → ℕ → ℕ → Assignment
+assignment matches unmatchedDetections unmatchedTracks rejected turns scans =
+    record { matches = matches; unmatchedDetections = unmatchedDetections; unmatchedTracks = unmatchedTracks; rejected = rejected; turns = turns; scans = scans }
 
 -- (0..n).filter(|d| !matched.contains(d))
 unfoldable pub unmatched : List ℕ → ℕ → List ℕ
@@ -41,14 +42,15 @@ validated ok numDets numTrks a =
     (sieve ok matchedIndices)
     (unmatched matchedDets numDets ++ boxesOf rejected)
     (unmatched matchedTrks numTrks ++ tracksOf rejected)
+    rejected
     (a .turns)
     (a .scans)
 
 -- by a cost matrix, where those pairs stand that have ok
 unfoldable pub assignedBy : (Pair → Bool) → List Float → ℕ → ℕ → Float → Assignment
 assignedBy ok cost numDets numTrks threshold =
-    cond (eqb numDets 0) (assignment [] [] (indices numTrks) 0 0)
-    (cond (eqb numTrks 0) (assignment [] (indices numDets) [] 0 0)
+    cond (eqb numDets 0) (assignment [] [] (indices numTrks) [] 0 0)
+    (cond (eqb numTrks 0) (assignment [] (indices numDets) [] [] 0 0)
     (validated ok numDets numTrks (matchDetections cost numDets numTrks threshold)))
 
 -- linear_assignment: those stand whose IoU is at least the threshold

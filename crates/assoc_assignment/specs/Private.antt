@@ -67,6 +67,7 @@ pub record TailRoom (ps : List Pair) (a b boxes tracks : ℕ) : Type 0 where
 pub record Tails (ps : List Pair) (a b : ℕ) (boxes tracks : List ℕ) (r : Left) (boxes′ tracks′ : List ℕ) : Type 0 where
   pub boxes-are : (l us : List ℕ) → Pushed l us a boxes → Pushed l (us ++ boxesOf ps) (r .boxes) boxes′
   pub tracks-are : (l us : List ℕ) → Pushed l us b tracks → Pushed l (us ++ tracksOf ps) (r .tracks) tracks′
+  pub rejected-are : r .rejected ≡ length ps
 
 -- of the pairs ps, of which those with ok stand
 abbrev pub leftBoxes : (Pair → Bool) → List Pair → ℕ → List ℕ
@@ -94,7 +95,7 @@ leavingWith many boxes tracks = record { many = many; boxes = boxes; tracks = tr
 abbrev pub leaving : (Pair → Bool) → List Pair → ℕ → ℕ → List ℕ → List ℕ → Leaving
 leaving ok ps n m boxes tracks =
     leavingWith
-    (record { boxes = length (leftBoxes ok ps n); tracks = length (leftTracks ok ps m) })
+    (record { boxes = length (leftBoxes ok ps n); tracks = length (leftTracks ok ps m); rejected = length (rejected ok ps) })
     (over (leftBoxes ok ps n) boxes)
     (over (leftTracks ok ps m) tracks)
 
@@ -122,7 +123,7 @@ listingWith many lists = record { many = many; lists = lists }
 
 -- those of an assignment over the fronts
 abbrev pub listing : Assignment → Lists → Listing
-listing a l = listingWith (record { pairs = length (a .matches); boxes = length (a .unmatchedDetections); tracks = length (a .unmatchedTracks) }) (listed a l)
+listing a l = listingWith (record { pairs = length (a .matches); boxes = length (a .unmatchedDetections); tracks = length (a .unmatchedTracks); rejected = length (a .rejected) }) (listed a l)
 
 -- what an accepted call of linear_assignment has been found to hold
 pub record AssignmentReady (n m ious costs : ℕ) (room : Room) (work : ℕ) : Type 0 where

@@ -26,11 +26,12 @@ use refusals::Verdict;
 use refusals::larger;
 use refusals::smaller;
 
-// The lengths of the lists, and lapjv's row turns and column scans: both 0 on the direct path.
+// The lengths of the lists, how many pairs were rejected, which are the last of both unmatched lists, and lapjv's row turns and column scans: both 0 on the direct path.
 pub struct AssignmentCounts {
     pub pairs: usize,
     pub detections: usize,
     pub tracks: usize,
+    pub rejected: usize,
     pub turns: usize,
     pub scans: usize,
 }
@@ -40,10 +41,11 @@ pub enum AssignmentAnswer {
     Refused(Refusal),
 }
 
-// How many boxes and tracks are left.
+// How many boxes and tracks are left, the rejected pairs among them.
 pub(crate) struct Left {
     boxes: usize,
     tracks: usize,
+    rejected: usize,
 }
 
 // How many are listed.
@@ -51,6 +53,7 @@ pub(crate) struct Lengths {
     pairs: usize,
     boxes: usize,
     tracks: usize,
+    rejected: usize,
 }
 
 // ---- the matched pairs
@@ -215,6 +218,7 @@ fn push_rejected(
     Left {
         boxes: a + k,
         tracks: b + k,
+        rejected: k,
     }
 }
 
@@ -295,6 +299,7 @@ fn list(
         pairs: pairs,
         boxes: rest.boxes,
         tracks: rest.tracks,
+        rejected: rest.rejected,
     }
 }
 
@@ -368,6 +373,7 @@ fn assign_with(
                 pairs: lists.pairs,
                 detections: lists.boxes,
                 tracks: lists.tracks,
+                rejected: lists.rejected,
                 turns: counts.turns,
                 scans: counts.scans,
             })

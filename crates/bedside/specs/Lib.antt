@@ -3,3 +3,4 @@ pub mod Lapjv
 pub mod Filter
 pub mod Pairs
 pub mod Frame
+pub mod Why

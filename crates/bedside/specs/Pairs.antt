@@ -28,10 +28,10 @@ abbrev pub assignmentInC : AssignmentAnswer → Assignment
 assignmentInC a =
     record { refusal = assignmentNumber a; pairs = assignmentValues a .pairs; «unmatched_detections» = assignmentValues a .detections; «unmatched_tracks» = assignmentValues a .tracks; turns = assignmentValues a .turns; scans = assignmentValues a .scans }
 
--- what a call says in C's form and leaves, as the pairing has it
+-- what a call says in C's form and leaves, as the pairing has it; C is not told how many pairs were rejected
 abbrev pub matchCallInC : Matched → MatchLent → Call MatchCounts MatchLent
 matchCallInC r l = record { number = r .refusal; counts = record { pairs = r .pairs; turns = r .turns; scans = r .scans }; lent = l }
 
-abbrev pub callInC : {L : Type 0} → Assignment → L → Call AssignmentCounts L
-callInC r l =
-    record { number = r .refusal; counts = record { pairs = r .pairs; detections = r .«unmatched_detections»; tracks = r .«unmatched_tracks»; turns = r .turns; scans = r .scans }; lent = l }
+abbrev pub callInC : {L : Type 0} → ℕ → Assignment → L → Call AssignmentCounts L
+callInC rejected r l =
+    record { number = r .refusal; counts = record { pairs = r .pairs; detections = r .«unmatched_detections»; tracks = r .«unmatched_tracks»; rejected = rejected; turns = r .turns; scans = r .scans }; lent = l }

@@ -4,6 +4,7 @@ mod assignment;
 mod filter;
 mod frame;
 mod pairs;
+mod why;
 
 ghost use mathlib.Core.Path.{_≡_};
 ghost use Rattle.floats.specs.Exponential as Exponential;

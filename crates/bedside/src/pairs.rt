@@ -214,9 +214,9 @@ pub extern "C" fn bedside_linear_assignment(
     unmatched_tracks: &mut [usize],
     work: &mut [f64],
 ) -> Assignment
-    ensures { λ r. ⌜ callInC r (Assignments.lentWith (now («pair_boxes» .exit)) (now («pair_tracks» .exit)) (now («unmatched_detections» .exit)) (now («unmatched_tracks» .exit)) (now (work .exit)))
-        ≡ assignmentCall boxes tracks (now (iou .entry)) (now (cost .entry)) threshold
-        (Assignments.lentWith (now («pair_boxes» .entry)) (now («pair_tracks» .entry)) (now («unmatched_detections» .entry)) (now («unmatched_tracks» .entry)) (now (work .entry))) ⌝ }
+    ensures { λ r. ⌜ (let call = assignmentCall boxes tracks (now (iou .entry)) (now (cost .entry)) threshold
+        (Assignments.lentWith (now («pair_boxes» .entry)) (now («pair_tracks» .entry)) (now («unmatched_detections» .entry)) (now («unmatched_tracks» .entry)) (now (work .entry))) in
+        callInC (call .counts .rejected) r (Assignments.lentWith (now («pair_boxes» .exit)) (now («pair_tracks» .exit)) (now («unmatched_detections» .exit)) (now («unmatched_tracks» .exit)) (now (work .exit))) ≡ call) ⌝ }
 {
     of_assignment(assoc::linear_assignment(
         boxes,
@@ -251,9 +251,9 @@ pub extern "C" fn bedside_associate(
     work64: &mut [f64],
     work32: &mut [f32],
 ) -> Assignment
-    ensures { λ r. ⌜ callInC r (lentWith (now («pair_boxes» .exit)) (now («pair_tracks» .exit)) (now («unmatched_detections» .exit)) (now («unmatched_tracks» .exit)) (now (work64 .exit)) (now (work32 .exit)))
-        ≡ associateCall params boxes tracks (now (detections .entry)) (now (corners .entry)) (now (mahalanobis .entry)) (now («track_confidence» .entry)) (now («detection_confidence» .entry)) (now («detection_labels» .entry)) (now («track_labels» .entry))
-        (lentWith (now («pair_boxes» .entry)) (now («pair_tracks» .entry)) (now («unmatched_detections» .entry)) (now («unmatched_tracks» .entry)) (now (work64 .entry)) (now (work32 .entry))) ⌝ }
+    ensures { λ r. ⌜ (let call = associateCall params boxes tracks (now (detections .entry)) (now (corners .entry)) (now (mahalanobis .entry)) (now («track_confidence» .entry)) (now («detection_confidence» .entry)) (now («detection_labels» .entry)) (now («track_labels» .entry))
+        (lentWith (now («pair_boxes» .entry)) (now («pair_tracks» .entry)) (now («unmatched_detections» .entry)) (now («unmatched_tracks» .entry)) (now (work64 .entry)) (now (work32 .entry))) in
+        callInC (call .counts .rejected) r (lentWith (now («pair_boxes» .exit)) (now («pair_tracks» .exit)) (now («unmatched_detections» .exit)) (now («unmatched_tracks» .exit)) (now (work64 .exit)) (now (work32 .exit))) ≡ call) ⌝ }
 {
     of_assignment(assoc::associate(
         params,

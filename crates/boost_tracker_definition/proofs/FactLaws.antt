@@ -238,7 +238,7 @@ module _ (s : Settings) (state : State) (t : Table) (boxes : Boxes) (out work64 
   knows = ready s state t boxes out work64 work32 e
 
   -- the boosts leave a score for each box
-  scored-many : length (frame .afterDuo) ≡ boxesIn (boxes .values)
+  pub scored-many : length (frame .afterDuo) ≡ boxesIn (boxes .values)
   unfolding updateBy steps stagesFrom
   scored-many =
       duo-many s (state .frames + 1) (bboxes (boxes .values)) (map predict held) (frame .afterDlo)
@@ -273,7 +273,7 @@ module _ (s : Settings) (state : State) (t : Table) (boxes : Boxes) (out work64 
   predicted-so = refl
 
   -- all tracks before retirement
-  all-started : frame .started ≡ startedFrom (state .last + length (frame .result .unmatchedDetections))
+  pub all-started : frame .started ≡ startedFrom (state .last + length (frame .result .unmatchedDetections))
       (correctedBy (frame .detBboxes) (boxesOf (frame .result .matches)) (tracksOf (frame .result .matches)) (map predict held) ++ startedBy (state .last) (frame .detBboxes) (frame .result .unmatchedDetections))
   unfolding updateBy steps stagesFrom
   all-started =
@@ -282,7 +282,7 @@ module _ (s : Settings) (state : State) (t : Table) (boxes : Boxes) (out work64 
       ∙ rw (matched-is (frame .detBboxes) (frame .result .matches) (map predict held))
 
   -- an index for each retained score, and each is of a box
-  inds-many : length (frame .detScores) ≡ length (frame .remainInds)
+  pub inds-many : length (frame .detScores) ≡ length (frame .remainInds)
   unfolding updateBy steps stagesFrom
   inds-many = scores-of (frame .afterDuo) (frame .remainInds)
 

@@ -1,7 +1,2 @@
--- Laws that the proofs of several functions cite.
-pub mod GatherLaws
-pub mod BoostLaws
-pub mod RetainLaws
-pub mod PairLaws
-pub mod SettledLaws
+-- Laws that the proof of `advance` cites.
 pub mod AdvanceLaws

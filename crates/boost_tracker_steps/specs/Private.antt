@@ -1,149 +1,51 @@
--- What only the contracts between private functions cite: sizes that they ask for, and what a step leaves.
+-- What only the contracts between private functions cite: steps 6 and 7 after the pairs are found, and how a call goes on from what `prepare` left.
 use mathlib.Core.Path.{_≡_}
-use mathlib.Core.List.{List, [], _∷_, _++_, map}
-use Prim.Native.Nat.{ℕ, _+_, _*_, _≤_, _<_, _^_, max}
-use lib.ListN.{length, take}
+use mathlib.Core.Bool.{true}
+use mathlib.Core.List.{List, map}
+use Prim.Native.Nat.{ℕ}
+use lib.ListN.{length}
 use lib.Ieee.{Float}
 use Rattle.laws.specs.Laid.{laid}
-use Rattle.labels.specs.Label.{sameLabel}
-use Rattle.strack.specs.Strack.{getState, getKfState, getKfCovarianceDiag}
-use Rattle.boost_tracker_mh_dist.specs.MhDist.{row, reciprocals}
-use Rattle.refusals.specs.declared.refusal.Verdict.{Verdict}
-use Rattle.refusals.specs.declared.refusal.Verdict.the-variants.{Accepted}
+use Rattle.strack.specs.Strack.{predict}
 use Rattle.assoc_assignment.specs.declared.assignment.AssignmentAnswer.{AssignmentAnswer}
-use Rattle.assoc_assignment.specs.declared.assignment.AssignmentAnswer.the-variants.{Assigned}
-use Rattle.assoc_matching.specs.Answers.{zeroed}
-use Rattle.assoc_assignment.specs.Answers.{assignmentCounts}
-use Rattle.assoc.specs.Answers.{cleared}
-use Rattle.assoc_assignment.specs.Assignment.{Assignment}
+use Rattle.assoc_assignment.specs.declared.assignment.AssignmentAnswer.the-variants.{Assigned, Refused as Unassigned}
 use Rattle.boost_tracker_settings.specs.declared.settings.Settings.{Settings}
-use Rattle.boost_tracker_table.specs.Table.{Track, capacity, placesIn}
-use Rattle.boost_tracker_table.specs.Lent.{tracksIn, labelsIn, laidOver, Call, callWith}
+use Rattle.boost_tracker_table.specs.Table.{placeFloats, placeCounters, Track, floatsOf, countersOf}
+use Rattle.boost_tracker_table.specs.Lent.{Table, tableWith, tracksIn, Call, callWith}
+use Rattle.boost_tracker_verdict.specs.declared.refusal.Refusal.the-variants.{WorkShort}
+use Rattle.boost_tracker_verdict.specs.declared.refusal.Verdict.the-variants.{Accepted, Refused}
+use Rattle.boost_tracker_verdict.specs.declared.sound.State.{State}
 use Rattle.boost_tracker_verdict.specs.Boxes.{Boxes}
-use Rattle.boost_tracker_definition.specs.Plain.{startedLabels}
-use Rattle.boost_tracker_steps.specs.AllSteps.{Lent, lentAfter}
-use Rattle.boost_tracker_steps.specs.declared.gather.Four.{Four}
-use Rattle.boost_tracker_steps.specs.declared.gather.RowOf.{RowOf}
-use Rattle.boost_tracker_steps.specs.declared.gather.RowOf.the-variants as row-of
-use Rattle.boost_tracker_definition.specs.Update.{cornersOf, xyxyOf, trackerAt, bboxes, scores, trks, confs, remainInds, detBboxes, detScores, detLabels, result, matched, Started, startedFrom, started, Stages, steps, labelsStarted}
+use Rattle.boost_tracker_follow.specs.Corrections.{followed}
+use Rattle.boost_tracker_pairs.specs.declared.pairing.Prepared.{Prepared}
+use Rattle.boost_tracker_pairs.specs.Pairs.{Inputs, roomyFor, PrepareCall}
+use Rattle.boost_tracker_steps.specs.declared.all_steps.Advanced.{Advanced}
+use Rattle.boost_tracker_steps.specs.AllSteps.{refusedAdvance, Lent, advanced}
 
--- what a stage leaves that accepts its sizes
-abbrev pub accepted : {L : Type 0} → L → Call Verdict L
-accepted l = callWith Accepted l
+-- ---- steps 6 and 7
 
--- ---- gathering
+abbrev pub answered : AssignmentAnswer → Advanced
+answered (Assigned q) = record { verdict = Accepted; started = q .detections; turns = q .turns; scans = q .scans }
+answered (Unassigned why) = refusedAdvance (Refused WorkShort)
 
-abbrev pub fourFloats : Four → List Float
-fourFloats v = v .a ∷ v .b ∷ v .c ∷ v .d ∷ []
+abbrev pub predictedFloats : Table → ℕ → List Float
+predictedFloats t held = laid floatsOf placeFloats (map predict (tracksIn t held)) (t .floats)
 
--- a row of the track, as it is gathered
-abbrev pub rowOf : RowOf → Track → List Float
-rowOf row-of.Corners t = cornersOf (getState t)
-rowOf row-of.State t = row (getKfState t)
-rowOf row-of.SigmaInv t = row (reciprocals (getKfCovarianceDiag t))
+abbrev pub predictedCounters : Table → ℕ → List ℕ
+predictedCounters t held = laid countersOf placeCounters (map predict (tracksIn t held)) (t .counters)
 
--- the times since update, and that they fit u32
-unfoldable pub sinceOf : List Track → List ℕ
-sinceOf trackers = map (λ t. t .since) trackers
+-- the pairs followed in the predicted table; none found, and it is as it was
+abbrev pub settled : State → List Float → List ℕ → List ℕ → List ℕ → List ℕ → Table → AssignmentAnswer → Call Advanced Table
+settled state corners labels pairBoxes pairTracks unmatched t (Assigned counts) =
+    let call : Call AssignmentAnswer Table =
+    followed (state .count) (state .last) corners labels counts pairBoxes pairTracks unmatched (tableWith (predictedFloats t (state .count)) (predictedCounters t (state .count)) (t .labels)) in
+    callWith (answered (call .answer)) (call .lent)
+settled state corners labels pairBoxes pairTracks unmatched t (Unassigned why) = callWith (answered (Unassigned why)) t
 
-abbrev pub SinceLow : ℕ → List Track → Type 0
-SinceLow held trackers = (j : ℕ) → j < held → trackerAt trackers j .since < 2 ^ 32
+-- ---- steps 5 to 7
 
--- local lists for n boxes
-pub record LocalRoom (held n corners scores trks confs : ℕ) : Type 0 where
-  pub corners-fit : corners ≡ n * 4
-  pub scores-fit : scores ≡ n
-  pub trks-fit : trks ≡ held * 4
-  pub confs-fit : confs ≡ held
-
-pub record Gathered (objects : List Float) (trackers : List Track) (corners probs ts cs : List Float) : Type 0 where
-  pub corners-are : corners ≡ bboxes objects
-  pub scores-are : probs ≡ scores objects
-  pub trks-are : ts ≡ trks trackers
-  pub confs-are : cs ≡ confs trackers
-
--- ---- distances and boosts
-
-pub record Distant (boxes held corners out : ℕ) : Type 0 where
-  pub few-boxes : boxes ≤ 255
-  pub few-tracks : held ≤ 255
-  pub corners-fit : corners ≡ boxes * 4
-  pub room : boxes * held ≤ out
-
-pub record Scored (held floats counters corners trks confs work scores : ℕ) : Type 0 where
-  pub placed : held ≤ capacity floats counters
-  pub distant : Distant scores held corners work
-  pub trks-fit : trks ≡ held * 4
-  pub confs-fit : confs ≡ held
-
--- ---- the retained boxes
-
-pub record KeptBoxes (thresh : Float) (objects probs corners₀ corners : List Float) (w : ℕ) : Type 0 where
-  pub count : w ≡ length (remainInds thresh probs)
-  pub cells : corners ≡ laid (λ i. cornersOf (xyxyOf objects i)) 4 (remainInds thresh probs) corners₀
-
-pub record Retained (thresh : Float) (objects probs₀ : List Float) (boxLabels : List ℕ) (probs corners : List Float) (labels : List ℕ) (kept : ℕ) : Type 0 where
-  pub corners-are : take (kept * 4) corners ≡ detBboxes objects (remainInds thresh probs₀)
-  pub scores-are : take kept probs ≡ detScores probs₀ (remainInds thresh probs₀)
-  pub labels-are : take kept labels ≡ detLabels boxLabels (remainInds thresh probs₀)
-  pub few : kept ≤ length probs₀
-
--- ---- the association
-
--- for as many boxes as there are scores
-pub record Sized (held corners trks confs scores work64 work32 : ℕ) : Type 0 where
-  pub few-boxes : scores ≤ 255
-  pub few-tracks : held ≤ 255
-  pub corners-fit : corners ≡ scores * 4
-  pub trks-fit : trks ≡ held * 4
-  pub confs-fit : confs ≡ held
-  pub doubles : max scores held * max scores held ≤ work64
-  pub singles : 4 * (max scores held * max scores held) ≤ work32
-
--- ---- corrected and started tracks
-
--- a place and an id for every box
-pub record StartRoom (held boxes last floats counters labels : ℕ) : Type 0 where
-  pub room : held + boxes ≤ placesIn floats counters labels
-  pub ids-fit : last + 255 < 2 ^ 64
-
--- the pairs, by 02's rule
-abbrev pub paired : Settings → List Float → List Float → List Float → List Float → List ℕ → List Track → List ℕ → Assignment
-paired self boxes probs ts cs boxLabels trackers labels = result sameLabel self boxes probs trackers ts cs boxLabels labels
-
--- all trackers after step 7, and the last id
-abbrev pub allStarted : Settings → ℕ → List Float → List Float → List Float → List Float → List ℕ → List Track → List ℕ → Started
-allStarted self last boxes probs ts cs boxLabels trackers labels =
-    started (self .«det_thresh») boxes probs (paired self boxes probs ts cs boxLabels trackers labels .unmatchedDetections)
-    (startedFrom last (matched boxes (paired self boxes probs ts cs boxLabels trackers labels .matches) trackers))
-
--- what steps 4 to 7 answer and leave: the counts of the association, and all trackers with their labels over the front of the table
-unfoldable pub settledCall : Settings → ℕ → List Float → List Float → List Float → List Float → List ℕ → ℕ → Lent → Call AssignmentAnswer Lent
-settledCall self last boxes probs ts cs boxLabels held l =
-    let trackers : List Track = tracksIn (l .table) held in
-    let labels : List ℕ = labelsIn (l .table) held in
-    let found : Assignment = paired self boxes probs ts cs boxLabels trackers labels in
-    callWith (Assigned (assignmentCounts found))
-    (record {
-      table = laidOver (allStarted self last boxes probs ts cs boxLabels trackers labels .trackers) (labels ++ startedLabels boxLabels (found .unmatchedDetections)) (l .table);
-      work64 = zeroed (l .work64);
-      work32 = cleared (l .work32);
-    })
-
--- ---- a frame
-
-pub record TrackRoom (held n last floats counters labels work64 work32 : ℕ) : Type 0 where
-  pub few-boxes : n ≤ 255
-  pub room : held + n ≤ placesIn floats counters labels
-  pub ids-fit : last + 255 < 2 ^ 64
-  pub doubles : max held n * max held n ≤ work64
-  pub singles : 4 * (max held n * max held n) ≤ work32
-
--- what steps 1 to 7 answer and leave
-unfoldable pub stagesCall : List ℕ → List ℕ → Stages → Lent → Call AssignmentAnswer Lent
-stagesCall boxLabels labels g l = callWith (Assigned (assignmentCounts (g .result))) (lentAfter g (labelsStarted boxLabels labels g) l)
-
--- of the predicted tracks in the table
-abbrev pub trackedCall : Settings → ℕ → ℕ → Boxes → ℕ → Lent → Call AssignmentAnswer Lent
-trackedCall self frame last boxes held l =
-    stagesCall (boxes .labels) (labelsIn (l .table) held) (steps sameLabel self frame last boxes (tracksIn (l .table) held) (labelsIn (l .table) held)) l
+-- whatever frame `prepare` left this of, the call ends as that frame's
+pub record Concluded (s : Settings) (state : State) (p : Prepared) (l : Inputs) (before : Lent) (r : Advanced) (after : Lent) : Type 0 where
+  pub ends : (boxes : Boxes) (room : ℕ) (l₀ : Inputs) (work32 : List Float) → roomyFor l₀ ≡ true → length (before .work32) ≡ length work32
+      → PrepareCall s state boxes (before .table) room (length (before .work64)) 0 l₀ work32 p l (before .work32)
+      → callWith r after ≡ advanced s state boxes room (record { table = before .table; work64 = before .work64; work32 = work32 })

@@ -1,9 +1,13 @@
 // Replays frames of standard input through update, and prints a line for each: what it answers, and digests of what it is given and of all that it
-// leaves. oracle/boost_tracker/run writes both files, stdin by its own rules and stdout by the published tracker with the label rule.
+// leaves; and a line for each box that is asked about, what why answers. oracle/boost_tracker/run writes both files, stdin by its own rules and stdout by the published tracker with the label rule.
 // A record is its kind and words. 0 lends a table: flags (1 DLO, 2 DUO, 4 rich, 8 soft, 16 varying, 32 shape v1, 64 capped confidences), det_thresh, iou_threshold,
 // the three weights, dlo_boost_coef, max_age, min_hits; count, last id and frame count; how many floats, counters and labels are lent, and how many floats and
 // counters follow, the others being 7; then a title, these, and all labels, a byte each. 1 is a frame over the table as it was left: how many floats and labels
-// its boxes have, the lengths of output and both work slices, then floats and labels.
+// its boxes have, the lengths of output and both work slices, then floats and labels. 2 asks about boxes of such a frame, and leaves the table: behind the
+// lengths the index of the first and how many they are.
+mod asked;
+
+use asked::ask_all;
 use boost_tracker::Settings;
 use boost_tracker::State;
 use boost_tracker::UpdateAnswer;
@@ -111,6 +115,10 @@ fn step(w: &[u64; 17], now: Playing, f: &mut [f32], c: &mut [u64], l: &mut [u8])
         opened(w, f, c, l);
         return now.state;
     }
+    if now.kind == 2 {
+        ask_all(w, now.settings, now.state, f, c, l);
+        return now.state;
+    }
     frame(w, now, f, c, l)
 }
 
@@ -121,8 +129,13 @@ fn play(w: &[u64; 17], now: Playing, f: &mut [f32], c: &mut [u64], l: &mut [u8])
     let d = at_most(l.len(), now.labels);
     let mut then = now;
     then.state = step(w, now, &mut f[..a], &mut c[..b], &mut l[..d]);
-    then.kind = input::word_or(2);
+    then.kind = input::word_or(3);
     then
+}
+
+// How many words a frame has, or a question about its boxes.
+fn lengths(kind: u32) -> usize {
+    if kind == 2 { 7 } else { 5 }
 }
 
 fn replay(now: Playing, f: &mut [f32; 6143], c: &mut [u64; 1023], l: &mut [u8; 257]) -> Playing {
@@ -131,7 +144,7 @@ fn replay(now: Playing, f: &mut [f32; 6143], c: &mut [u64; 1023], l: &mut [u8; 2
         input::words(17, 0, &mut w);
         return play(&w, started(&w), f, c, l);
     }
-    input::words(5, 0, &mut w);
+    input::words(lengths(now.kind), 0, &mut w);
     play(&w, now, f, c, l)
 }
 
@@ -141,9 +154,9 @@ fn main() {
     let mut counters = [7u64; 1023];
     let mut labels = [7u8; 257];
     let mut now = started(&[0; 17]);
-    now.kind = input::word_or(2);
+    now.kind = input::word_or(3);
     let mut records = u64::MAX;
-    while records > 0 && now.kind < 2 {
+    while records > 0 && now.kind < 3 {
         now = replay(now, &mut floats, &mut counters, &mut labels);
         records -= 1;
     }

@@ -33,7 +33,7 @@ pub enum Worked {
 }
 
 // Document 01: `det_thresh` 0.6, `iou_threshold` 0.3, `max_age` 30, `min_hits` 3, otherwise those of `new`.
-fn settings() -> Settings
+pub fn settings() -> Settings
     ensures { λ r. ⌜ r ≡ Trackbox.settings ⌝ }
 {
     Settings::new(0.6, 0.3, 30, 3)

@@ -9,6 +9,7 @@ pub use feed::Feed;
 pub use feed::Item;
 pub use feed::start;
 pub use feed::take;
+pub use frame::settings;
 pub use sizes::LENT_BOX_LABELS;
 pub use sizes::LENT_BOXES;
 pub use sizes::LENT_COUNTERS;

@@ -18,8 +18,9 @@ use Rattle.trackbox_feed.specs.Feed as calls
 use Rattle.trackbox_feed.specs.Laws.{Memory, Prints, memory}
 use Rattle.trackbox_io.specs.declared.calls.Input.{Input}
 use Rattle.trackbox_io.specs.declared.calls.Input.the-variants.{Bytes, Failed}
-use Rattle.trackbox_io.specs.declared.progress.Progress.{Progress}
-use Rattle.trackbox_io.specs.Turn.{inputBytes, start, spent, crowded, stopped, cleared, emptied, refilled, Arrays, boxesOf, withInput, Within, Empties, Fills}
+use Rattle.trackbox_progress.specs.declared.progress.Progress.{Progress}
+use Rattle.trackbox_progress.specs.Progress.{start, spent, stopped, cleared, emptied}
+use Rattle.trackbox_io.specs.Turn.{inputBytes, crowded, refilled, Arrays, boxesOf, withInput, Within, Empties, Fills}
 use Rattle.trackbox_io.specs.Laws.{waiting}
 use Rattle.trackbox_io.specs.Printed.{memoryIn, Onward, Along}
 use Rattle.trackbox_io.proofs.BufferRecords.{records-split, records-none}

@@ -25,8 +25,9 @@ use Rattle.trackbox_feed.specs.Feed.{Lent, lentWith, hasRoom, Call, callWith, f
 use Rattle.trackbox_feed.specs.Feed as calls
 use Rattle.trackbox_feed.specs.Laws.{Memory, Scratch, Serves, square, Sized, lentOf, SaidOf, Prints, memory}
 use Rattle.trackbox_feed.proofs.Theorem.{printed-is}
-use Rattle.trackbox_io.specs.declared.progress.Progress.{Progress}
-use Rattle.trackbox_io.specs.Turn.{textBytes, callBytes, start, spent, later, answered, itemAt, Arrays, boxesOf, Sizes, Stands, Hands}
+use Rattle.trackbox_progress.specs.declared.progress.Progress.{Progress}
+use Rattle.trackbox_progress.specs.Progress.{start, spent, later}
+use Rattle.trackbox_io.specs.Turn.{textBytes, callBytes, answered, itemAt, Arrays, boxesOf, Sizes, Stands, Hands}
 use Rattle.trackbox_io.specs.Laws.{waiting, said}
 use Rattle.trackbox_io.specs.Printed.{memoryIn, Onward, Goes, Along}
 use Rattle.trackbox_io.proofs.Waiting.{waiting-grows}

@@ -1,13 +1,12 @@
 -- Each return of the functions on `Progress` is the definition's case. Assumes nothing.
-use mathlib.Core.Path.{_≡_, refl, sym, ap, _∙_}
-use mathlib.Core.Bool.{Bool, true, false, not, true≢false}
+use mathlib.Core.Path.{_≡_, sym, ap, _∙_}
+use mathlib.Core.Bool.{true, false}
 use mathlib.Core.List.{List}
-use Prim.Native.Nat.{ℕ, _+_, _-_, _*_, _/_, _%_, _≤_, _<_, min, max}
-use native.Mathlib.Nat.{mul-le-mul}
+use Prim.Native.Nat.{ℕ, _+_, _-_, _*_, _/_, _%_, _≤_, _<_, min}
 use native.Mathlib.Omega.{arith}
 use lib.Dec.{leb}
 use lib.ListN.{length}
-use borrow.Author.Tests.{lt-ltb, le-ltb, le-leb, lt-leb}
+use borrow.Author.Tests.{lt-ltb, le-leb, lt-leb}
 use Rattle.records.specs.declared.box_record.BoxRecord.{BoxRecord}
 use Rattle.records.specs.declared.box_record.BoxAnswer.{BoxAnswer}
 use Rattle.records.specs.declared.box_record.BoxAnswer.the-variants.{Read, Short}
@@ -18,11 +17,11 @@ use Rattle.trackbox_feed.specs.declared.feed.Item.{Item}
 use Rattle.trackbox_feed.specs.declared.feed.Item.the-variants.{Record, End}
 use Rattle.trackbox_feed.specs.declared.feed.Fed.{Fed}
 use Rattle.trackbox_feed.specs.declared.feed.Fed.the-variants as fed
-use Rattle.trackbox_feed.specs.Trackbox.{lentDoubles}
 use Rattle.trackbox_io.specs.declared.calls.Input.{Input}
 use Rattle.trackbox_io.specs.declared.calls.Input.the-variants.{Bytes, Failed}
-use Rattle.trackbox_io.specs.declared.progress.Progress.{Progress}
-use Rattle.trackbox_io.specs.Turn.{stopped, cleared, emptied, refilled, known, later, answered, itemAt, Needed}
+use Rattle.trackbox_progress.specs.declared.progress.Progress.{Progress}
+use Rattle.trackbox_progress.specs.Progress.{stopped, later}
+use Rattle.trackbox_io.specs.Turn.{refilled, known, answered, itemAt}
 
 -- ---- what is handed on
 
@@ -53,23 +52,7 @@ never-short next got input h k e q =
     let z : _≡_ {A = ℕ} 0 1 = ap is-short (sym (box-is next got input h k) ∙ sym e ∙ q) in
     omega (arith, z)
 
--- ---- the next record
-
-pub later-one : (next got : ℕ) → next < got / boxBytes → next + 1 ≡ later next got
-later-one next got h = rw (lt-ltb next (got / boxBytes) h)
-
-pub later-same : (next got : ℕ) → got / boxBytes ≤ next → next ≡ later next got
-later-same next got h = rw (le-ltb next (got / boxBytes) h)
-
--- ---- what a write and a read leave
-
-pub not-written : (p : Progress) (written : Bool) {r : Progress} → not written ≡ true → r ≡ stopped p → r ≡ emptied p written
-not-written p true e q = absurd (true≢false (sym e))
-not-written p false e q = q
-
-pub was-written : (p : Progress) (written : Bool) → not written ≡ false → cleared p ≡ emptied p written
-was-written p true e = refl
-was-written p false e = absurd (true≢false e)
+-- ---- what a read leaves
 
 pub was-read : (p : Progress) (size : ℕ) {input : Input} {n left : ℕ} → input ≡ Bytes n → left ≡ p .left - n
     → record { feed = p .feed; left = left; more = leb size n; got = n; next = 0; used = p .used; going = p .going; failed = p .failed } ≡ refilled p size input
@@ -92,17 +75,3 @@ module _ (p : Progress) (size : ℕ) {a : Fed} {r : Progress} where
 
   pub short-so : a ≡ fed.Short → r ≡ stopped p → r ≡ answered p size a
   short-so e q = rw e q
-
--- ---- what a frame needs
-
-pub few-cells : {n : ℕ} → n ≤ 64 → n * n ≤ lentDoubles
-few-cells h = mul-le-mul h h
-
-pub needed-all : (held boxes : ℕ) → Needed held boxes lentDoubles
-needed-all held boxes = record { doubles = record { enough = omega arith; bound = omega arith }; singles = record { enough = omega arith; bound = omega arith } }
-
-pub needed-square : (held boxes : ℕ) {n : ℕ} → n ≡ max held boxes → n ≤ 64 → Needed held boxes (n * n)
-needed-square held boxes {n} e h =
-    let low = mul-le-mul h h in
-    let s : n * n ≡ max held boxes * max held boxes = rw e in
-    record { doubles = record { enough = omega (arith, s); bound = omega (arith, low) }; singles = record { enough = omega (arith, s); bound = omega (arith, low) } }

@@ -19,8 +19,9 @@ use Rattle.trackbox_feed.specs.Laws.{Prints, memory}
 use Rattle.trackbox_feed.proofs.Theorem.{printed-is}
 use Rattle.trackbox_io.specs.declared.calls.Input.{Input}
 use Rattle.trackbox_io.specs.declared.calls.Input.the-variants.{Bytes, Failed}
-use Rattle.trackbox_io.specs.declared.progress.Progress.{Progress}
-use Rattle.trackbox_io.specs.Turn.{textBytes, inputBytes, callBytes, start, spent, crowded, emptied, refilled, Arrays, withInput, Sizes, Stands, Empties, Fills, Turned}
+use Rattle.trackbox_progress.specs.declared.progress.Progress.{Progress}
+use Rattle.trackbox_progress.specs.Progress.{start, spent, emptied}
+use Rattle.trackbox_io.specs.Turn.{textBytes, inputBytes, callBytes, crowded, refilled, Arrays, withInput, Sizes, Stands, Empties, Fills, Turned}
 use Rattle.trackbox_io.specs.Laws.{waiting}
 use Rattle.trackbox_io.specs.Printed.{memoryIn, Onward, Along, Prefix, Printed}
 use Rattle.trackbox_io.proofs.BufferRecords.{records-split}

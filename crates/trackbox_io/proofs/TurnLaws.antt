@@ -17,12 +17,13 @@ use Rattle.trackbox_feed.specs.declared.feed.Fed.the-variants.{Taken, Again, En
 use Rattle.trackbox_feed.specs.Feed.{Lent, lentWith, callWith, fed}
 use Rattle.trackbox_io.specs.declared.calls.Input.{Input}
 use Rattle.trackbox_io.specs.declared.calls.Input.the-variants.{Bytes, Failed}
-use Rattle.trackbox_io.specs.declared.progress.Progress.{Progress}
+use Rattle.trackbox_progress.specs.declared.progress.Progress.{Progress}
 use Rattle.trackbox_io.specs.declared.turns.Ran.{Ran}
 use Rattle.trackbox_io.specs.declared.turns.Ran.the-variants as ran
 use Rattle.trackbox_io.specs.Printed.{Along}
 use Rattle.trackbox_io.proofs.Theorem.{turn-along}
-use Rattle.trackbox_io.specs.Turn.{textBytes, inputBytes, Leaves, Ends, spent, crowded, emptied, refilled, answered, itemAt, Arrays, boxesOf, withInput, Sizes, Stands, Empties, Within, Fills, Needed, Handed, Turned}
+use Rattle.trackbox_progress.specs.Progress.{spent, emptied, Needed}
+use Rattle.trackbox_io.specs.Turn.{textBytes, inputBytes, Leaves, Ends, crowded, refilled, answered, itemAt, Arrays, boxesOf, withInput, Sizes, Stands, Empties, Within, Fills, Handed, Turned}
 
 -- ---- what waits is written out
 

@@ -12,8 +12,9 @@ use Rattle.laws.specs.Tests.{and-left, and-right}
 use Rattle.trackbox_feed.specs.declared.feed.Fed.{Fed}
 use Rattle.trackbox_feed.specs.declared.feed.Fed.the-variants.{Taken, Again, Ended, Short}
 use Rattle.trackbox_io.specs.declared.calls.Input.the-variants.{Failed}
-use Rattle.trackbox_io.specs.declared.progress.Progress.{Progress}
-use Rattle.trackbox_io.specs.Turn.{spent, crowded, stopped, emptied, refilled, answered, Arrays, Empties, Fills, Hands, Turned}
+use Rattle.trackbox_progress.specs.declared.progress.Progress.{Progress}
+use Rattle.trackbox_progress.specs.Progress.{spent, stopped, emptied}
+use Rattle.trackbox_io.specs.Turn.{crowded, refilled, answered, Arrays, Empties, Fills, Hands, Turned}
 use Rattle.trackbox_io.specs.Laws.{waiting, said, Laws}
 
 -- ---- what waits

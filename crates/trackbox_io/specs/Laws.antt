@@ -8,8 +8,9 @@ use lib.ListN.{length, take}
 use Rattle.trackbox_feed.specs.declared.feed.Fed.{Fed}
 use Rattle.trackbox_feed.specs.declared.feed.Fed.the-variants.{Taken, Again, Ended, Short}
 use Rattle.trackbox_io.specs.declared.calls.Input.the-variants.{Failed}
-use Rattle.trackbox_io.specs.declared.progress.Progress.{Progress}
-use Rattle.trackbox_io.specs.Turn.{spent, crowded, stopped, Arrays, Empties, Hands, Turned}
+use Rattle.trackbox_progress.specs.declared.progress.Progress.{Progress}
+use Rattle.trackbox_progress.specs.Progress.{spent, stopped}
+use Rattle.trackbox_io.specs.Turn.{crowded, Arrays, Empties, Hands, Turned}
 
 -- ---- what waits
 

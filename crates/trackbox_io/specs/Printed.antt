@@ -15,8 +15,9 @@ use Rattle.trackbox_stream.specs.Stream.{boxRecords}
 use Rattle.trackbox_feed.specs.Trackbox.{lentBoxes, lentBoxLabels, trackbox}
 use Rattle.trackbox_feed.specs.Feed as calls
 use Rattle.trackbox_feed.specs.Laws.{Memory, Prints, memory}
-use Rattle.trackbox_io.specs.declared.progress.Progress.{Progress}
-use Rattle.trackbox_io.specs.Turn.{start, Arrays, boxesOf, Sizes, Stands, Turned}
+use Rattle.trackbox_progress.specs.declared.progress.Progress.{Progress}
+use Rattle.trackbox_progress.specs.Progress.{start}
+use Rattle.trackbox_io.specs.Turn.{Arrays, boxesOf, Sizes, Stands, Turned}
 use Rattle.trackbox_io.specs.Laws.{waiting}
 
 -- ---- between two turns

@@ -17,11 +17,10 @@ use Rattle.trackbox_feed.specs.declared.feed.Fed.{Fed}
 use Rattle.trackbox_feed.specs.declared.feed.Fed.the-variants.{Taken, Again, Ended, Short}
 use Rattle.trackbox_feed.specs.Trackbox.{lentFloats, lentCounters, lentLabels, lentBoxes, lentBoxLabels, lentOutput, lentDoubles, lentSingles}
 use Rattle.trackbox_feed.specs.Feed.{lentWith, callWith, fed}
-use Rattle.trackbox_feed.specs.Feed as calls
-use Rattle.trackbox_feed.specs.Laws.{Serves, square}
 use Rattle.trackbox_io.specs.declared.calls.Input.{Input}
 use Rattle.trackbox_io.specs.declared.calls.Input.the-variants.{Bytes, Failed}
-use Rattle.trackbox_io.specs.declared.progress.Progress.{Progress}
+use Rattle.trackbox_progress.specs.declared.progress.Progress.{Progress}
+use Rattle.trackbox_progress.specs.Progress.{spent, stopped, emptied, later, Needed}
 use Rattle.trackbox_io.specs.declared.turns.Ran.{Ran}
 use Rattle.trackbox_io.specs.declared.turns.Ran.the-variants as ran
 
@@ -40,25 +39,8 @@ callBytes = 8192
 
 -- ---- what is known between two turns
 
-abbrev pub start : ℕ → Progress
-start bytes = record { feed = calls.start; left = bytes; more = true; got = 0; next = 0; used = 0; going = true; failed = false }
-
-abbrev pub spent : Progress → Bool
-spent p = leb (p .got / boxBytes) (p .next) && p .more
-
 abbrev pub crowded : ℕ → ℕ → Bool
 crowded used size = ltb (size - used) callBytes
-
--- a call failed: nothing is handed on or written any more
-abbrev pub stopped : Progress → Progress
-stopped p = record { feed = p .feed; left = p .left; more = p .more; got = p .got; next = p .next; used = p .used; going = false; failed = true }
-
-abbrev pub cleared : Progress → Progress
-cleared p = record { feed = p .feed; left = p .left; more = p .more; got = p .got; next = p .next; used = 0; going = p .going; failed = p .failed }
-
--- what waited was written out, or a write failed
-abbrev pub emptied : Progress → Bool → Progress
-emptied p written = cond written (cleared p) (stopped p)
 
 -- a buffer that is not full is the last
 abbrev pub refilled : Progress → ℕ → Input → Progress
@@ -67,9 +49,6 @@ refilled p size Failed = stopped p
 
 abbrev pub known : Progress → Feed → ℕ → ℕ → Bool → Progress
 known p feed next used going = record { feed = feed; left = p .left; more = p .more; got = p .got; next = next; used = used; going = going; failed = false }
-
-abbrev pub later : ℕ → ℕ → ℕ
-later next got = cond (ltb next (got / boxBytes)) (next + 1) next
 
 -- a record is handed on again until it is taken, and then comes the next; the call's text waits behind what waits already
 abbrev pub answered : Progress → ℕ → Fed → Progress
@@ -142,11 +121,6 @@ pub record Fills (p r : Progress) (before after : List ℕ) : Type 0 where
   pub so : r ≡ cond (p .going && spent p) (refilled p (length before) input) p
   -- a buffer whose records are not all taken stays
   pub same : (p .going && spent p) ≡ false → after ≡ before
-
--- how many f64 a frame is lent: of f32 it is four times as many
-pub record Needed (held boxes n : ℕ) : Type 0 where
-  pub doubles : Serves (square held boxes) lentDoubles n
-  pub singles : Serves (4 * square held boxes) lentSingles (4 * n)
 
 -- one call of `take`
 pub record Hands (p r : Progress) (a b : Arrays) : Type 0 where

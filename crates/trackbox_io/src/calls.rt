@@ -21,25 +21,25 @@ pub(crate) fn flush(used: usize, text: &[u8]) -> bool
 }
 
 // One call. A read that brings no byte is the end of the input.
-fn read_some(room: &mut [u8]) -> Input
+fn read_some(from: i32, what: &[u8], room: &mut [u8]) -> Input
     ensures { λ r. ⌜ Within (length (now (room .entry))) r ⌝ }
 {
-    let got = libc::read(libc::STDIN_FILENO, room);
+    let got = libc::read(from, room);
     if got < 0 {
-        os::fail(b"trackbox: standard input");
+        os::fail(what);
         return Input::Failed;
     }
     Input::Bytes(io::count(got, room))
 }
 
-// Reads on until the buffer is full: a read may bring less than is there.
-pub(crate) fn read(input: &mut [u8]) -> Input
+// Reads on until the buffer is full: a read may bring less than is there. `what` is what standard error calls the file where a read fails.
+pub fn read(from: i32, what: &[u8], input: &mut [u8]) -> Input
     ensures { λ r. ⌜ Within (length (now (input .entry))) r ⌝ }
 {
     let size = input.len();
     let mut n = 0;
     while n < size {
-        let Input::Bytes(more) = read_some(&mut input[n..]) else {
+        let Input::Bytes(more) = read_some(from, what, &mut input[n..]) else {
             return Input::Failed;
         };
         if more == 0 {
@@ -48,4 +48,10 @@ pub(crate) fn read(input: &mut [u8]) -> Input
         n += more;
     }
     Input::Bytes(n)
+}
+
+pub(crate) fn read_input(input: &mut [u8]) -> Input
+    ensures { λ r. ⌜ Within (length (now (input .entry))) r ⌝ }
+{
+    read(libc::STDIN_FILENO, b"trackbox: standard input", input)
 }

@@ -1,13 +1,14 @@
-// Where a run stands, and what it does next.
+// What a run does next.
 use crate::calls::Input;
 use records::BOX_BYTES;
 use records::BoxAnswer;
 use records::read_box;
-use refusals::larger;
 use trackbox_feed::Fed;
 use trackbox_feed::Feed;
 use trackbox_feed::Item;
-use trackbox_feed::LENT_DOUBLES;
+use trackbox_progress::Progress;
+use trackbox_progress::later;
+use trackbox_progress::stopped;
 ghost use mathlib.Core.Path.{_≡_};
 ghost use Prim.Native.Nat.{_+_, _-_, _≤_, min};
 ghost use lib.ListN.{length};
@@ -16,74 +17,12 @@ ghost use Rattle.trackbox_io.specs.Turn as Spec;
 // More than the lines of 64 tracks and one more.
 const CALL_BYTES: usize = 8192;
 
-// What is known between two turns.
-pub struct Progress {
-    pub feed: Feed,
-    // bytes of the stream that are not read yet
-    pub left: u64,
-    // false once the stream's last bytes are read
-    pub more: bool,
-    // bytes in the buffer
-    pub got: usize,
-    // the buffer's record that is handed on next
-    pub next: usize,
-    // bytes at the front of the text that are not written out yet
-    pub used: usize,
-    // false once nothing follows
-    pub going: bool,
-    // a call failed
-    pub failed: bool,
-}
-
-pub(crate) fn start(bytes: u64) -> Progress
-    ensures { λ r. ⌜ r ≡ Spec.start bytes ⌝ }
-{
-    Progress {
-        feed: trackbox_feed::start(),
-        left: bytes,
-        more: true,
-        got: 0,
-        next: 0,
-        used: 0,
-        going: true,
-        failed: false,
-    }
-}
-
-// The buffer's records are taken, and more may follow.
-pub(crate) fn spent(p: Progress) -> bool
-    ensures { λ r. ⌜ r ≡ Spec.spent p ⌝ }
-{
-    (p.got / BOX_BYTES <= p.next) & p.more
-}
-
 // Less than CALL_BYTES are left for the text of a call.
 pub(crate) fn crowded(used: usize, size: usize) -> bool
     requires { ⌜ used ≤ size ⌝ }
     ensures { λ r. ⌜ r ≡ Spec.crowded used size ⌝ }
 {
     size - used < CALL_BYTES
-}
-
-pub(crate) fn stopped(p: Progress) -> Progress
-    ensures { λ r. ⌜ r ≡ Spec.stopped p ⌝ }
-{
-    let mut now = p;
-    now.going = false;
-    now.failed = true;
-    now
-}
-
-// What waited is written out, or not.
-pub(crate) fn emptied(p: Progress, written: bool) -> Progress
-    ensures { λ r. ⌜ r ≡ Spec.emptied p written ⌝ }
-{
-    if !written {
-        return stopped(p);
-    }
-    let mut now = p;
-    now.used = 0;
-    now
 }
 
 fn less(left: u64, n: usize) -> u64
@@ -138,16 +77,6 @@ fn behind(used: usize, n: usize, size: usize) -> usize
     used + n
 }
 
-// The record behind this one.
-fn later(next: usize, got: usize) -> usize
-    ensures { λ r. ⌜ r ≡ Spec.later next got ⌝ }
-{
-    if next < got / BOX_BYTES {
-        return next + 1;
-    }
-    next
-}
-
 // n more bytes of text wait.
 fn known(p: Progress, feed: Feed, next: usize, n: usize, size: usize, going: bool) -> Progress
     requires { ⌜ p .used ≤ size ⌝ }
@@ -178,15 +107,4 @@ pub(crate) fn answered(p: Progress, size: usize, fed: Fed) -> Progress
         Fed::Ended(n) => known(p, feed, p.next, n, size, false),
         Fed::Short => stopped(p),
     }
-}
-
-// n × n, n the larger of the held tracks and the open frame's boxes, or all 64 × 64.
-pub(crate) fn needed(held: usize, boxes: usize) -> usize
-    ensures { λ r. ⌜ Spec.Needed held boxes r ⌝ }
-{
-    let n = larger(held, boxes);
-    if 64 < n {
-        return LENT_DOUBLES;
-    }
-    n * n
 }

@@ -1,16 +1,11 @@
 // One turn after another until the stream has ended, was turned down, or a call failed.
 use crate::calls::Input;
 use crate::calls::flush;
-use crate::calls::read;
-use crate::progress::Progress;
+use crate::calls::read_input;
 use crate::progress::answered;
 use crate::progress::crowded;
-use crate::progress::emptied;
 use crate::progress::item;
-use crate::progress::needed;
 use crate::progress::refilled;
-use crate::progress::spent;
-use crate::progress::start;
 use records::BOX_BYTES;
 use trackbox_feed::LENT_BOX_LABELS;
 use trackbox_feed::LENT_BOXES;
@@ -20,6 +15,11 @@ use trackbox_feed::LENT_FLOATS;
 use trackbox_feed::LENT_LABELS;
 use trackbox_feed::LENT_OUTPUT;
 use trackbox_feed::LENT_SINGLES;
+use trackbox_progress::Progress;
+use trackbox_progress::emptied;
+use trackbox_progress::needed;
+use trackbox_progress::spent;
+use trackbox_progress::start;
 ghost use Prim.Native.Nat.{_≤_};
 ghost use lib.ListN.{length};
 ghost use Rattle.trackbox_io.specs.Turn as Spec;
@@ -56,9 +56,9 @@ fn fill(most: u64, input: &mut [u8]) -> Input
     let size = input.len();
     if most < size as u64 {
         let want = most as usize;
-        return read(&mut input[..want]);
+        return read_input(&mut input[..want]);
     }
-    read(input)
+    read_input(input)
 }
 
 // Reads on where the buffer's records are taken.

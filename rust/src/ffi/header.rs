@@ -42,6 +42,10 @@ fn layouts() -> Vec<Layout> {
         },
         layout! { "bedside_state", State, count, last_id, frame_count },
         layout! { "bedside_update_answer", UpdateAnswer, refusal, index, state, emitted, turns, scans },
+        layout! {
+            "bedside_explanation", Explanation, refusal, index, fate, id, score, score_dlo, score_duo, paired_id, iou,
+            intersection, union_area
+        },
     ])
 }
 
@@ -72,6 +76,7 @@ fn c_type(rust: &str) -> String {
         "Settings" => "bedside_settings",
         "State" => "bedside_state",
         "UpdateAnswer" => "bedside_update_answer",
+        "Explanation" => "bedside_explanation",
         other => panic!("{other} has no name in C here"),
     };
     c.to_owned()
@@ -127,7 +132,7 @@ fn the_header_says_the_same() {
         eprintln!("no C compiler {compiler}: the header is not compared");
         return;
     }
-    assert!(declarations().len() >= 24);
+    assert!(declarations().len() >= 25);
     let place = PathBuf::from(env!("OUT_DIR"));
     let (source, program) = (place.join("header.c"), place.join("header"));
     fs::write(&source, c_program()).expect("the program is written");

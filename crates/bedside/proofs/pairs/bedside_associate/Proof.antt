@@ -12,7 +12,7 @@ abbrev after-call : tie.After-unmatched-detections → tie.After-associate
 after-call c = c .before .before .before .before .before
 
 returns : tie.Need-returns
-returns c = assignment-in-c _ (c .of-assignment .ensures) (after-call (after-unmatched c) .associate .ensures)
+returns c = let call = after-call (after-unmatched c) .associate in assignment-in-c (call .result) _ (c .of-assignment .ensures) (call .ensures)
 
 pub bedside-associate-spec : {M : Type 1} → statement M
 bedside-associate-spec =

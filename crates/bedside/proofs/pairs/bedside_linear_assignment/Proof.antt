@@ -12,7 +12,7 @@ abbrev after-call : tie.After-unmatched-detections → tie.After-linear-assignme
 after-call c = c .before .before .before .before .before
 
 returns : tie.Need-returns
-returns c = assignment-in-c _ (c .of-assignment .ensures) (after-call (after-unmatched c) .linear-assignment .ensures)
+returns c = let call = after-call (after-unmatched c) .linear-assignment in assignment-in-c (call .result) _ (c .of-assignment .ensures) (call .ensures)
 
 pub bedside-linear-assignment-spec : {M : Type 1} → statement M
 bedside-linear-assignment-spec =

@@ -1,109 +1,112 @@
--- `all_steps::advance` meets its contract: a refused frame changes nothing, and an accepted one is predicted and followed; no stage refuses it. Assumes nothing.
+-- `all_steps::advance` meets its contract: what is prepared is concluded. Assumes nothing.
 use denote.Ref.{now}
-use mathlib.Core.Path.{_∙_}
-use native.Mathlib.Omega.{arith}
-use lib.ListN.{length}
-use Rattle.boost_tracker_steps.proofs.PairLaws.{never-unpaired}
-use Rattle.boost_tracker_steps.proofs.AdvanceLaws.{stages-answer, known-ready, since-low, predicted-are, track-room, advance-refused, advance-done}
-use Rattle.boost_tracker_table.specs.Lent.{tableWith}
 use Rattle.boost_tracker_verdict.specs.Boxes.{boxesWith}
-use Rattle.boost_tracker_verdict.specs.Ready.{Ready}
+use Rattle.boost_tracker_pairs.specs.Pairs.{inputsWith}
+use Rattle.boost_tracker_pairs.proofs.EndLaws.{blank, roomy-blank, roomy-lists}
+use Rattle.boost_tracker_steps.proofs.AdvanceLaws.{kept-low}
 use borrow.Author.Needs.{needs}
 use Rattle.boost_tracker_steps.proofs.all_steps.advance.Statement.{statement}
 use Rattle.boost_tracker_steps.proofs.all_steps.advance.Tie as tie
 
+slice-aggregate-prepare : tie.Need-slice-aggregate-prepare
+slice-aggregate-prepare c = search needs
+
+slice-aggregate-prepare-2 : tie.Need-slice-aggregate-prepare-2
+slice-aggregate-prepare-2 c = search needs
+
+slice-aggregate-prepare-3 : tie.Need-slice-aggregate-prepare-3
+slice-aggregate-prepare-3 c = search needs
+
+slice-aggregate-prepare-4 : tie.Need-slice-aggregate-prepare-4
+slice-aggregate-prepare-4 c = search needs
+
+slice-aggregate-prepare-5 : tie.Need-slice-aggregate-prepare-5
+slice-aggregate-prepare-5 c = search needs
+
+prepare-requires : tie.Need-prepare-requires
+prepare-requires c κs = search needs
+
+slice-aggregate-conclude : tie.Need-slice-aggregate-conclude
+slice-aggregate-conclude c = search needs
+
+slice-aggregate-conclude-2 : tie.Need-slice-aggregate-conclude-2
+slice-aggregate-conclude-2 c = search needs
+
+slice-aggregate-conclude-3 : tie.Need-slice-aggregate-conclude-3
+slice-aggregate-conclude-3 c = search needs
+
+slice-aggregate-conclude-4 : tie.Need-slice-aggregate-conclude-4
+slice-aggregate-conclude-4 c = search needs
+
+slice-aggregate-conclude-5 : tie.Need-slice-aggregate-conclude-5
+slice-aggregate-conclude-5 c = search needs
+
 -- The places that the answers go back to.
-abbrev start : tie.After-frame-verdict → tie.Start
-start c = c .before .before .before .before .before .before .before .before .before .before .before
+abbrev after-prepare·conclude-requires : tie.After-conclude-arg5 → tie.After-prepare
+after-prepare·conclude-requires c = c .before .before .before .before .before .before .before .before .before .before .before .before .before .before .before .before .before
 
-abbrev entry : tie.After-enum-told → tie.Start
-entry c = start (c .before .before)
+abbrev start·conclude-requires : tie.After-conclude-arg5 → tie.Start
+start·conclude-requires c = after-prepare·conclude-requires c .before .before .before .before .before .before .before .before .before .before .before .before .before .before .before .before .before
 
-abbrev after-frame-verdict : tie.After-refused → tie.After-frame-verdict
-after-frame-verdict c = c .before .before .before
+abbrev after-conclude : tie.After-slice-known11 → tie.After-conclude
+after-conclude c = c .before .before .before .before .before .before .before .before .before .before
 
-abbrev judged : tie.After-predict-all → tie.After-enum-told
-judged c = c .before .before .before .before
+abbrev after-prepare : tie.After-slice-known11 → tie.After-prepare
+after-prepare c = after-prepare·conclude-requires (after-conclude c .before)
 
-abbrev after-predict-all : tie.After-track-arg5 → tie.After-predict-all
-after-predict-all c = c .before .before .before .before .before .before .before .before .before
+abbrev start : tie.After-slice-known11 → tie.Start
+start c = start·conclude-requires (after-conclude c .before)
 
-abbrev after-track : tie.After-known-told → tie.After-track
-after-track c = c .before .before .before .before .before .before .before .before .before .before .before .before .before
+conclude-requires : tie.Need-conclude-requires
+conclude-requires c κs =
+    let a = start·conclude-requires c .args in
+    let p = after-prepare·conclude-requires c .prepare in (
+      kept-low (a .settings) (a .state) (now (a .floats)) (now (a .counters)) (now (a .labels)) (boxesWith (now (a .boxes)) (now (a .box-labels))) (a .room) (now (a .work64)) (now (a .work32)) roomy-blank (p .ensures),
+      roomy-lists
+          (inputsWith (p .last .1 .1 .1 .1 .1 .1 .1 .1 .1 .1 .0) (p .last .1 .1 .1 .1 .1 .1 .1 .1 .1 .1 .1 .0) (p .last .1 .1 .1 .1 .1 .1 .1 .1 .1 .1 .1 .1 .0) (p .last .1 .1 .1 .1 .1 .1 .1 .1 .1 .1 .1 .1 .1 .0) (p .last .1 .1 .1 .1 .1 .1 .1 .1 .1 .1 .1 .1 .1 .1 .0))
+          (p .kept .1 .1 .1 .1 .1 .1 .1 .1 .1 .1 .0) (p .kept .1 .1 .1 .1 .1 .1 .1 .1 .1 .1 .1 .0) (p .kept .1 .1 .1 .1 .1 .1 .1 .1 .1 .1 .1 .1 .0) (p .kept .1 .1 .1 .1 .1 .1 .1 .1 .1 .1 .1 .1 .1 .0) (p .kept .1 .1 .1 .1 .1 .1 .1 .1 .1 .1 .1 .1 .1 .1 .0),
+    )
 
-abbrev after-track·returns-2 : tie.After-refused2 → tie.After-track
-after-track·returns-2 c = c .before .before .before .before .before .before .before .before .before .before .before .before .before
+same-length : tie.Need-same-length
+same-length c = search needs
+
+same-length-2 : tie.Need-same-length-2
+same-length-2 c = search needs
+
+same-length-3 : tie.Need-same-length-3
+same-length-3 c = search needs
+
+same-length-4 : tie.Need-same-length-4
+same-length-4 c = search needs
+
+same-length-5 : tie.Need-same-length-5
+same-length-5 c = search needs
 
 returns : tie.Need-returns
 returns c =
-    let verdict = after-frame-verdict c in
-    let a = start verdict .args in
-    advance-refused (a .settings) (a .state) (now (a .floats)) (now (a .counters)) (now (a .labels)) (boxesWith (now (a .boxes)) (now (a .box-labels))) (a .room) (now (a .work64)) (now (a .work32))
-    (verdict .frame-verdict .ensures) (c .before .enum-told2 .given .1) (c .refused .ensures)
-
--- what an accepted frame knows
-accepted-ready : (c : tie.After-enum-told)
-    → Ready (entry c .args .settings) (entry c .args .state) (tableWith (now (entry c .args .floats)) (now (entry c .args .counters)) (now (entry c .args .labels)))
-    (boxesWith (now (entry c .args .boxes)) (now (entry c .args .box-labels))) (entry c .args .room)
-    (length (now (entry c .args .work64))) (length (now (entry c .args .work32)))
-accepted-ready c =
-    let a = entry c .args in
-    known-ready (a .settings) (a .state) (now (a .floats)) (now (a .counters)) (now (a .labels)) (boxesWith (now (a .boxes)) (now (a .box-labels))) (a .room) (now (a .work64)) (now (a .work32))
-    (c .before .before .frame-verdict .ensures) (c .enum-told .given .1)
-
-add-frame : tie.Need-add-frame
-add-frame c = omega (arith, accepted-ready (c .before) .frames-low)
-
-track-requires : tie.Need-track-requires
-track-requires c κs =
-    let first = after-predict-all c in
-    let a = entry (judged first) .args in
-    let r = accepted-ready (judged first) in
-    let kept = first .predict-all .kept in (
-      track-room (a .settings) (a .state) (now (a .floats)) (now (a .counters)) (now (a .labels)) (boxesWith (now (a .boxes)) (now (a .box-labels))) (a .room) (now (a .work64)) (now (a .work32)) r (kept .0) (kept .1 .0),
-      rw (predicted-are (a .settings) (a .state) (now (a .floats)) (now (a .counters)) (now (a .labels)) (boxesWith (now (a .boxes)) (now (a .box-labels))) (a .room) (now (a .work64)) (now (a .work32)) r (first .predict-all .ensures))
-          (since-low (a .settings) (a .state) (tableWith (now (a .floats)) (now (a .counters)) (now (a .labels))) (boxesWith (now (a .boxes)) (now (a .box-labels))) (a .room) (length (now (a .work64))) (length (now (a .work32))) r),
-    )
-
-returns-2 : tie.Need-returns-2
-returns-2 c = absurd (never-unpaired (after-track·returns-2 c .track .ensures ∙ stages-answer _ _ _ _) (c .before .enum-told3 .given .1))
-
-returns-3 : tie.Need-returns-3
-returns-3 c =
-    let tracked = after-track c in
-    let first = after-predict-all (tracked .before) in
-    let verdict = judged first in
-    let a = entry verdict .args in
-    advance-done (a .settings) (a .state) (now (a .floats)) (now (a .counters)) (now (a .labels)) (boxesWith (now (a .boxes)) (now (a .box-labels))) (a .room) (now (a .work64)) (now (a .work32)) (accepted-ready verdict)
-    (verdict .before .before .frame-verdict .ensures) (verdict .enum-told .given .1) (first .predict-all .ensures) (tracked .track .ensures) (c .before .answer .given .1)
+    let a = start c .args in
+    let p = after-prepare c .prepare in
+    after-conclude c .conclude .ensures .ends (boxesWith (now (a .boxes)) (now (a .box-labels))) (a .room) blank (now (a .work32)) roomy-blank (p .kept .1 .1 .1 .1 .1 .1 .1 .1 .1 .1 .1 .1 .1 .1 .1 .0) (p .ensures)
 
 pub advance-spec : {M : Type 1} → statement M
 advance-spec =
     tie.close
     (tie.spec
-    (λ c κs. search needs)
-    (λ c. search needs)
-    (λ c. search needs)
-    (λ c κs. search needs)
-    (λ c. search needs)
-    (λ c. search needs)
-    (λ c. search needs)
-    returns
-    add-frame
-    (λ c κs. search needs)
-    track-requires
-    (λ c. search needs)
-    (λ c. search needs)
-    (λ c κs. search needs)
-    (λ c. search needs)
-    (λ c. search needs)
-    (λ c. search needs)
-    (λ c. search needs)
-    (λ c. search needs)
-    returns-2
-    (λ c. search needs)
-    (λ c. search needs)
-    (λ c. search needs)
-    (λ c. search needs)
-    (λ c. search needs)
-    returns-3)
+    slice-aggregate-prepare
+    slice-aggregate-prepare-2
+    slice-aggregate-prepare-3
+    slice-aggregate-prepare-4
+    slice-aggregate-prepare-5
+    prepare-requires
+    slice-aggregate-conclude
+    slice-aggregate-conclude-2
+    slice-aggregate-conclude-3
+    slice-aggregate-conclude-4
+    slice-aggregate-conclude-5
+    conclude-requires
+    same-length
+    same-length-2
+    same-length-3
+    same-length-4
+    same-length-5
+    returns)

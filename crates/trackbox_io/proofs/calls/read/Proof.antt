@@ -10,10 +10,10 @@ use Rattle.trackbox_io.proofs.calls.read.Statement.{statement}
 use Rattle.trackbox_io.proofs.calls.read.Tie as tie
 
 abbrev Inv-loop : tie.InvT-loop
-Inv-loop input₀ size n₀ input n = (length input ≡ size) × (n ≤ size)
+Inv-loop from what input₀ size n₀ input n = (length input ≡ size) × (n ≤ size)
 
 abbrev μ-loop : tie.MeasureT-loop
-μ-loop input₀ size n₀ input n = size - n
+μ-loop from what input₀ size n₀ input n = size - n
 
 -- The place where the loop begins, from the call that reads.
 abbrev at-loop : tie.After-read-some Inv-loop μ-loop → tie.At-loop Inv-loop μ-loop
@@ -23,7 +23,7 @@ same-length : tie.Need-same-length Inv-loop μ-loop
 same-length c =
     let call = c .before .before .before .before in
     let loop = at-loop call .loop in
-    same-len-mid (loop .n) (length (loop .input) - loop .n) (loop .input) (call .read-some .last .0) (call .read-some .kept .0) ∙ loop .inv .0
+    same-len-mid (loop .n) (length (loop .input) - loop .n) (loop .input) (call .read-some .last .1 .1 .0) (call .read-some .kept .1 .1 .0) ∙ loop .inv .0
 
 returns : tie.Need-returns Inv-loop μ-loop
 returns c = tt
@@ -32,7 +32,7 @@ same-length-2 : tie.Need-same-length-2 Inv-loop μ-loop
 same-length-2 c =
     let call = c .before .before .before .before .before .before in
     let loop = at-loop call .loop in
-    same-len-mid (loop .n) (length (loop .input) - loop .n) (loop .input) (call .read-some .last .0) (call .read-some .kept .0) ∙ loop .inv .0
+    same-len-mid (loop .n) (length (loop .input) - loop .n) (loop .input) (call .read-some .last .1 .1 .0) (call .read-some .kept .1 .1 .0) ∙ loop .inv .0
 
 returns-2 : tie.Need-returns-2 Inv-loop μ-loop
 returns-2 c = at-loop (c .before .before .before .before .before .before) .loop .inv .1
@@ -43,7 +43,7 @@ add-n c =
     let loop = at-loop call .loop in
     let begun : loop .n ≤ length (loop .input) = omega (arith, loop .inv .0, loop .inv .1) in
     let low = read-within (loop .n) (loop .input) (call .read-some .result) begun (c .before .before .more .given .1) (call .read-some .ensures) in
-    record { fits = omega (arith, low, loop .inv .0, at-loop call .before .before .good .0 .0) }
+    record { fits = omega (arith, low, loop .inv .0, at-loop call .before .before .before .good .1 .1 .0 .0) }
 
 loop-less : tie.Need-loop-less Inv-loop μ-loop
 loop-less c =
@@ -59,7 +59,7 @@ loop-again c =
     let loop = at-loop call .loop in
     let begun : loop .n ≤ length (loop .input) = omega (arith, loop .inv .0, loop .inv .1) in
     let low = read-within (loop .n) (loop .input) (call .read-some .result) begun (c .before .before .more .given .1) (call .read-some .ensures) in
-    let kept = same-len-mid (loop .n) (length (loop .input) - loop .n) (loop .input) (call .read-some .last .0) (call .read-some .kept .0) in
+    let kept = same-len-mid (loop .n) (length (loop .input) - loop .n) (loop .input) (call .read-some .last .1 .1 .0) (call .read-some .kept .1 .1 .0) in
     (kept ∙ loop .inv .0, omega (arith, low, loop .inv .0))
 
 pub read-spec : {M : Type 1} → statement M

@@ -5,7 +5,7 @@ use Prim.Native.Nat.{ℕ, _<_}
 use native.Mathlib.Omega.{arith}
 use lib.ListN.{replicate, length-replicate}
 use lib.Ieee.{binary32, binary64, ofBits}
-use Rattle.trackbox_io.specs.declared.progress.Progress.{Progress}
+use Rattle.trackbox_progress.specs.declared.progress.Progress.{Progress}
 use Rattle.trackbox_feed.specs.Trackbox.{lentFloats, lentCounters, lentLabels, lentBoxes, lentBoxLabels, lentOutput, lentDoubles, lentSingles}
 use Rattle.trackbox_io.specs.Turn.{textBytes, inputBytes, Arrays, arrays, Sizes}
 use Rattle.trackbox_io.proofs.Filling.{start-along}
