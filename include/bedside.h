@@ -5,7 +5,7 @@
  * the payload of a NaN are left open. CHANGELOG.md says what each version changed for callers.
  *
  * ---- What the library does not do ----
- * It allocates nothing, keeps nothing between calls and has no data of its own: 44 kB of code, no variables. Every call
+ * It allocates nothing, keeps nothing between calls and has no data of its own: 45 kB of code, no variables. Every call
  * is reentrant, from any thread, and two trackers are two tables. No call fails but by its refusal number, overflows,
  * runs forever, or touches memory that it was not lent. Of other code it calls memset alone.
  *
@@ -65,10 +65,10 @@ extern "C" {
 
 /* ---- version ---- */
 #define BEDSIDE_VERSION_MAJOR 3
-#define BEDSIDE_VERSION_MINOR 1
+#define BEDSIDE_VERSION_MINOR 2
 #define BEDSIDE_VERSION_PATCH 0
 #define BEDSIDE_VERSION (BEDSIDE_VERSION_MAJOR * 10000 + BEDSIDE_VERSION_MINOR * 100 + BEDSIDE_VERSION_PATCH)
-#define BEDSIDE_VERSION_STRING "3.1.0"
+#define BEDSIDE_VERSION_STRING "3.2.0"
 
 /* ---- sizes ---- */
 #define BEDSIDE_PLACE_FLOATS 24       /* a place of the table */
@@ -125,7 +125,10 @@ enum bedside_refusal {
     BEDSIDE_TOO_SHORT = 33,
     BEDSIDE_NOT_LABELLED = 34,
     /* why a box has no track: besides those of a frame */
-    BEDSIDE_NO_BOX = 81
+    BEDSIDE_NO_BOX = 81,
+    /* dropping tracks, besides 10 and 11 */
+    BEDSIDE_ID_TWICE = 101,
+    BEDSIDE_ID_NOT_HELD = 102
 };
 
 /* The number in words, for a log. */
@@ -152,6 +155,8 @@ static inline const char *bedside_refusal_text(uint32_t refusal)
     case BEDSIDE_TOO_SHORT: return "a result or work slice is too short";
     case BEDSIDE_NOT_LABELLED: return "a label is other than 1 to 3";
     case BEDSIDE_NO_BOX: return "the frame has no box of this index";
+    case BEDSIDE_ID_TWICE: return "an id stands twice in the list";
+    case BEDSIDE_ID_NOT_HELD: return "an id is not that of a held track";
     default: return "no refusal of this library";
     }
 }
@@ -374,6 +379,26 @@ bedside_explanation bedside_why(bedside_settings settings, bedside_state state, 
                                 const uint8_t *box_labels, size_t box_labels_len, const uint8_t *out,
                                 size_t out_len, double *work64, size_t work64_len, float *work32,
                                 size_t work32_len, size_t box);
+
+/* ---- dropping tracks, one or a set of them: 11 and 10 of a frame, also where there is no id; 101 an id twice in the
+ * list; 102 an id that is not held; the first that applies, in this order, is said ----
+ * A set is dropped whole or not at all. An empty set changes nothing. Otherwise the remaining tracks move up in their
+ * order, with their labels, and the places beyond the new count become 0; last_id and frame_count are unchanged, so no
+ * id is given again. An accepted call leaves what calls for one id after the other leave, in any order. The ids are
+ * those in the records of out, and the first counter of each place of the table.
+ * A list may have any length and is only read. One of more than state.count ids is always turned away; to know whether
+ * with 101 or 102 takes up to ids_len * (ids_len - 1) / 2 comparisons. A caller whose lists come from elsewhere
+ * therefore compares ids_len with state.count first: that turns away no list that would be accepted. */
+typedef struct {
+    uint32_t refusal;
+    bedside_state state; /* the new one; where refused, the one given */
+} bedside_forgotten;
+
+bedside_forgotten bedside_forget(bedside_state state, float *floats, size_t floats_len, uint64_t *counters,
+                                 size_t counters_len, uint8_t *labels, size_t labels_len, uint64_t id);
+bedside_forgotten bedside_forget_set(bedside_state state, float *floats, size_t floats_len, uint64_t *counters,
+                                     size_t counters_len, uint8_t *labels, size_t labels_len, const uint64_t *ids,
+                                     size_t ids_len);
 
 /* ---- lengths to lend: for a table of so many places, and for a frame of so many held tracks (state.count) and
  * boxes. The work of the pairs has the same lengths. ---- */

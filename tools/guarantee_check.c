@@ -2,7 +2,7 @@
  *
  *     program update               the most bytes of stack that frames took
  *     program why                  the most that questions about boxes of the same frames took
- *     program others               the most that any other call took
+ *     program others               the most that any other call took, drops of tracks too
  *     program match_detections     what that call took on the direct path, and by lapjv
  *     program linear_assignment    the same of this call
  *     program tiny                 the refusal of a box of the width 1e-40
@@ -125,6 +125,29 @@ static void associate(void)
                                 4 * CELLS).refusal;
 }
 
+/* All tracks of a full table, the last one first. */
+static void forget_set(void)
+{
+    static uint64_t ids[PLACES];
+    for (size_t k = 0; k < PLACES; k++) {
+        ids[k] = PLACES - k;
+        counters[BEDSIDE_PLACE_COUNTERS * k] = k + 1;
+        labels[k] = BEDSIDE_STAFF;
+    }
+    const bedside_state full = {PLACES, PLACES, 1};
+    refusal = bedside_forget_set(full, floats, BEDSIDE_FLOATS_LEN(PLACES), counters, BEDSIDE_COUNTERS_LEN(PLACES),
+                                 labels, sizeof labels, ids, PLACES).refusal;
+}
+
+static void forget(void)
+{
+    counters[0] = 1;
+    labels[0] = BEDSIDE_SLEEPER;
+    const bedside_state one = {1, 1, 1};
+    refusal = bedside_forget(one, floats, BEDSIDE_FLOATS_LEN(PLACES), counters, BEDSIDE_COUNTERS_LEN(PLACES), labels,
+                             sizeof labels, 1).refusal;
+}
+
 static void small_calls(void)
 {
     float x = bedside_max(bedside_exp(0.3f), bedside_min(bedside_sqrt(2.0f), bedside_powf_1_5(3.0f)));
@@ -163,7 +186,7 @@ static size_t others(void)
 {
     static void (*const calls[])(void) = {lapjv, iou_batch, soft_biou_batch, shape_similarity_v1, shape_similarity_v2,
                                           mh_dist_similarity, match_detections, linear_assignment, associate,
-                                          small_calls};
+                                          forget_set, forget, small_calls};
     size_t most = 0;
     for (size_t k = 0; k < sizeof calls / sizeof calls[0]; k++)
         most = larger(most, taken(calls[k]));

@@ -168,10 +168,21 @@ static void ask(tracker *t, const float *boxes, size_t boxes_len, const uint8_t 
            (unsigned)e.paired_id, e.iou, e.intersection, e.union_area);
 }
 
+/* Drops the tracks with these ids. */
+static void forget(tracker *t, const uint64_t *ids, size_t ids_len)
+{
+    bedside_forgotten answer =
+        bedside_forget_set(t->state, t->floats, BEDSIDE_FLOATS_LEN(PLACES), t->counters, BEDSIDE_COUNTERS_LEN(PLACES),
+                           t->labels, BEDSIDE_LABELS_LEN(PLACES), ids, ids_len);
+    t->state = answer.state;
+    printf("%-15s refusal %u held %u last id %u\n", "forget", (unsigned)answer.refusal, (unsigned)answer.state.count,
+           (unsigned)answer.state.last_id);
+}
+
 /* A sleeper and a partner, who is missed once. A nurse stands before the sleeper, and starts a track of their own; the
  * sleeper is seen again and goes on with the old id. Before that it is asked what will become of each box, and of one
- * that is not there. Then a box without width, a label that is none, and more boxes than
- * places are left. */
+ * that is not there. Then a box without width, a label that is none, and more boxes than places are left. The bed is
+ * empty, and all tracks are dropped, after lists that are turned away; the sleeper who comes back has a new id. */
 static void frames(void)
 {
     static tracker t;
@@ -201,6 +212,12 @@ static void frames(void)
     frame(&t, no_width, LENGTH(no_width), two);
     frame(&t, fourth, LENGTH(fourth), none);
     frame(&t, four, LENGTH(four), three);
+    static const uint64_t twice[] = {3, 9, 3}, not_held[] = {3, 9}, ghosts[] = {3, 1, 2};
+    forget(&t, twice, LENGTH(twice));
+    forget(&t, not_held, LENGTH(not_held));
+    forget(&t, ghosts, LENGTH(ghosts));
+    frame(&t, missed, LENGTH(missed), two);
+    printf("%-15s %u\n", "id in place 0", (unsigned)t.counters[0]);
 }
 
 int main(void)

@@ -119,8 +119,9 @@ fn show_why(tracker: &mut Tracker, boxes: &[Detection], index: usize) {
 }
 
 /// A sleeper and a partner, who is missed once; frames that are refused, which change nothing; and a nurse who stands
-/// before the sleeper and has a track of their own, which is told before.
-fn frames() {
+/// before the sleeper and has a track of their own, which is told before. Then all are dropped, after lists that are
+/// turned away; a sleeper who comes back has a new id.
+fn frames() -> Answer {
     let mut tracker = Tracker::with_capacity(Settings::new(0.6, 0.3, 30, 3), 5);
     let sleeper = |left| Detection::new(left, 20.0, 32.0, 64.0, 0.75);
     let partner = Detection::new(80.0, 24.0, 30.0, 60.0, 0.875).labelled(Label::Partner);
@@ -137,6 +138,17 @@ fn frames() {
     show_frame(&mut tracker, &[nurse, sleeper(12.0)]);
     let (frames, held, last) = (tracker.frame_count(), tracker.held_tracks(), tracker.last_id());
     println!("{:15} frames {frames} held {held} last id {last}", "tracker");
+    for ids in [&[3, 9, 3][..], &[3, 9]] {
+        if let Err(refusal) = tracker.forget_set(ids) {
+            println!("{:15} {refusal}", "forget");
+        }
+    }
+    tracker.forget(2)?;
+    println!("{:15} held {:?}", "forget", tracker.held_ids().collect::<Vec<_>>());
+    tracker.forget_set(&[3, 1])?;
+    show_frame(&mut tracker, &[sleeper(12.0)]);
+    println!("{:15} held {:?}", "tracker", tracker.held_ids().collect::<Vec<_>>());
+    Ok(())
 }
 
 fn main() -> Answer {
@@ -144,6 +156,6 @@ fn main() -> Answer {
     filter_pair()?;
     assignment()?;
     pairs()?;
-    frames();
+    frames()?;
     Ok(())
 }

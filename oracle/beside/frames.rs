@@ -174,7 +174,7 @@ pub fn check(case: &Case) -> Found {
 type Compare = fn(&mut Table, &Boxes, [usize; 3], &mut Report) -> bool;
 
 /// A frame of a scene; whether the two can go on.
-fn frame(table: &mut Table, boxes: &Boxes, lengths: [usize; 3], report: &mut Report) -> bool {
+pub fn frame(table: &mut Table, boxes: &Boxes, lengths: [usize; 3], report: &mut Report) -> bool {
     let input = Input::new(table, boxes, lengths);
     let found = caught(|| agree(table, &input));
     let same = found.is_ok();

@@ -6,6 +6,7 @@
 
 mod boosts;
 mod case;
+mod drops;
 mod floats;
 mod frames;
 mod lapjv;
@@ -23,7 +24,7 @@ use oracle::random::Random;
 use report::{Found, Report, caught};
 use std::time::{Duration, Instant};
 
-const KINDS: [&str; 8] = ["floats", "lapjv", "assoc", "strack", "boosts", "frames", "why", "streams"];
+const KINDS: [&str; 9] = ["floats", "lapjv", "assoc", "strack", "boosts", "frames", "why", "drops", "streams"];
 
 struct Wanted {
     folder: String,
@@ -77,7 +78,7 @@ fn wanted() -> Wanted {
     wanted
 }
 
-/// One draw of a kind: a call, a stream, or a scene of frames.
+/// One draw of a kind: a call, a stream, or a scene of frames, with drops or without.
 fn draw(kind: &str, random: &Random, wanted: &Wanted, report: &mut Report) {
     match kind {
         "floats" => floats::run(random, report),
@@ -87,6 +88,7 @@ fn draw(kind: &str, random: &Random, wanted: &Wanted, report: &mut Report) {
         "boosts" => boosts::run(random, &wanted.boosts, report),
         "frames" => frames::run(random, report),
         "why" => why::run(random, report),
+        "drops" => drops::run(random, report),
         _ => streams::run(random, &wanted.trackbox, report),
     }
 }
@@ -115,6 +117,7 @@ fn replay(file: &str, wanted: &Wanted) -> Found {
         "boosts" => boosts::check(&case, &wanted.boosts),
         "frames" => frames::check(&case),
         "why" => why::check(&case),
+        "drops" => drops::check(&case),
         _ => streams::check(&case, &wanted.trackbox),
     })
 }

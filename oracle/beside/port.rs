@@ -76,6 +76,12 @@ pub struct Explanation {
     pub overlap: [f32; 3],
 }
 
+#[repr(C)]
+pub struct Forgotten {
+    pub refusal: u32,
+    pub state: State,
+}
+
 type In = *const f32;
 type Out = *mut f32;
 type List = *mut usize;
@@ -136,4 +142,12 @@ unsafe extern "C" {
         labels: *const u8, labels_len: usize, boxes: In, boxes_len: usize, box_labels: *const u8, box_labels_len: usize,
         out: *const u8, out_len: usize, work64: *mut f64, work64_len: usize, work32: Out, work32_len: usize, index: usize,
     ) -> Explanation;
+    pub fn bedside_forget(
+        state: State, floats: Out, floats_len: usize, counters: *mut u64, counters_len: usize, labels: *mut u8,
+        labels_len: usize, id: u64,
+    ) -> Forgotten;
+    pub fn bedside_forget_set(
+        state: State, floats: Out, floats_len: usize, counters: *mut u64, counters_len: usize, labels: *mut u8,
+        labels_len: usize, ids: *const u64, ids_len: usize,
+    ) -> Forgotten;
 }

@@ -7,6 +7,9 @@ use std::time::{Duration, Instant};
 /// Files that are written at most; later differences are only counted.
 const FILES: u64 = 20;
 
+/// Above every number of a refusal.
+const ANSWERS: usize = 128;
+
 /// The number that both answered, 0 where the call was accepted; or what differs.
 pub type Found = Result<u64, String>;
 
@@ -29,14 +32,14 @@ pub struct Report {
     /// Frames with row turns: those whose pairing called lapjv.
     pub turned: u64,
     /// How many calls were answered with each number.
-    answers: [u64; 128],
+    answers: [u64; ANSWERS],
     shown: Instant,
 }
 
 impl Report {
     pub fn new(kind: &'static str, folder: &str) -> Report {
         let (folder, shown) = (folder.to_string(), Instant::now());
-        Report { kind, folder, passed: 0, failed: 0, not_finite: 0, turned: 0, answers: [0; 128], shown }
+        Report { kind, folder, passed: 0, failed: 0, not_finite: 0, turned: 0, answers: [0; ANSWERS], shown }
     }
 
     pub fn inputs(&self) -> u64 {
@@ -70,7 +73,7 @@ impl Report {
 
     /// How many were refused, by number.
     pub fn refusals(&self) -> String {
-        let refused = (1..128).filter(|&k| self.answers[k] > 0);
+        let refused = (1..ANSWERS).filter(|&k| self.answers[k] > 0);
         let list: Vec<String> = refused.map(|k| format!("{k} in {}", self.answers[k])).collect();
         if list.is_empty() { String::new() } else { format!("; refused: {}", list.join(", ")) }
     }
@@ -79,7 +82,7 @@ impl Report {
         let Report { kind, passed, failed, not_finite, turned, .. } = self;
         let besides = match *kind {
             "frames" => format!(", {not_finite} not finite; with row turns: {turned}"),
-            "boosts" | "why" => format!(", {not_finite} not finite"),
+            "boosts" | "why" | "drops" => format!(", {not_finite} not finite"),
             _ => String::new(),
         };
         format!("{kind}: {passed} passed, {failed} failed{besides}")

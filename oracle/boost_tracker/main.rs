@@ -1,6 +1,6 @@
 //! The published tracker on the scenes and single calls of crates/boost_tracker_vectors; for what the port turns down,
-//! the numbers of the scope document; what it did with boxes that are asked about; and for scenes with capped confidences
-//! the published records, each capped:
+//! the numbers of the scope document and of document 02; what it did with boxes that are asked about; for scenes with
+//! capped confidences the published records, each capped; and for drops its list without the same tracks:
 //!
 //!     stdin          the records that it reads
 //!     vectors        what it has to print
@@ -9,6 +9,7 @@
 
 use oracle::boxes::Boxes;
 use oracle::digest::bits;
+use oracle::drops::{self, DROPPED, Drop};
 use oracle::frame::{Answer, CAP, Table};
 use oracle::lines;
 use oracle::records::Records;
@@ -21,6 +22,7 @@ use std::io::Write;
 trait Audience {
     fn begins(&mut self, name: &str, table: &Table);
     fn frame(&mut self, boxes: &Boxes, table: &Table, answer: &Answer, lengths: [usize; 3]);
+    fn drop(&mut self, drop: &Drop, table: &Table, refusal: u32);
     /// The boxes of the next frame that are asked about, from the first on so many.
     fn asked(&mut self, _: &Boxes, _: &Answer, _: [usize; 3], _: [usize; 2]) {}
 }
@@ -51,37 +53,58 @@ impl Asks {
 }
 
 fn name(scene: &Scene) -> String {
-    let capped = if scene.settings.flags & CAP == 0 { "" } else { " capped" };
-    format!("scene {} {}{capped}", scene.number, KINDS[scene.kind])
+    format!("scene {} {}", scene.number, KINDS[scene.kind])
 }
 
 /// Works a scene, and hands each frame on.
 fn play(s: usize, audience: &mut impl Audience) {
-    play_scene(scenes::scene(s), Some(Asks::default()), audience);
+    play_scene(scenes::scene(s), "", Some(Asks::default()), audience);
 }
 
 /// The same scene with confidences capped: the boxes, the lengths and the table are those without.
 fn play_capped(s: usize, audience: &mut impl Audience) {
     let mut scene = scenes::scene(s);
     scene.settings.flags |= CAP;
-    play_scene(scene, None, audience);
+    play_scene(scene, " capped", None, audience);
 }
 
-fn play_scene(mut scene: Scene, mut asks: Option<Asks>, audience: &mut impl Audience) {
+/// A frame, before which its boxes are asked about where these are wanted.
+fn work(f: usize, scene: &mut Scene, table: &mut Table, asks: Option<&mut Asks>, audience: &mut impl Audience) {
+    let boxes = scene.boxes(f);
+    let lengths = scene.lengths(f, table.state.count as usize, boxes.count());
+    let answer = table.update(&boxes, lengths);
+    if let Some(which) = asks.and_then(|asks| asks.of(&boxes, &answer)) {
+        audience.asked(&boxes, &answer, lengths, which);
+    }
+    audience.frame(&boxes, table, &answer, lengths);
+}
+
+fn forget(drop: &Drop, table: &mut Table, audience: &mut impl Audience) {
+    let refusal = table.forget(&drop.ids);
+    audience.drop(drop, table, refusal);
+}
+
+fn play_scene(mut scene: Scene, how: &str, mut asks: Option<Asks>, audience: &mut impl Audience) {
     let mut table = scene.start();
-    audience.begins(&name(&scene), &table);
+    audience.begins(&(name(&scene) + how), &table);
+    (0..scene.frames).for_each(|f| work(f, &mut scene, &mut table, asks.as_mut(), audience));
+}
+
+/// A scene with drops between its frames.
+fn play_dropped(s: usize, audience: &mut impl Audience) {
+    let mut scene = scenes::scene(s);
+    let mut table = scene.start();
+    audience.begins(&(name(&scene) + " with drops"), &table);
     for f in 0..scene.frames {
-        let boxes = scene.boxes(f);
-        let lengths = scene.lengths(f, table.state.count as usize, boxes.count());
-        let answer = table.update(&boxes, lengths);
-        if let Some(which) = asks.as_mut().and_then(|asks| asks.of(&boxes, &answer)) {
-            audience.asked(&boxes, &answer, lengths, which);
+        work(f, &mut scene, &mut table, None, audience);
+        if let Some(drop) = drops::after(s, f, &table) {
+            forget(&drop, &mut table, audience);
         }
-        audience.frame(&boxes, &table, &answer, lengths);
     }
 }
 
-/// Every scene, every single call, asked about at its last box and behind it, and the scenes with capped confidences.
+/// Every scene, every single call, asked about at its last box and behind it, the scenes with capped confidences, those with
+/// drops, and every single drop.
 fn play_all(audience: &mut impl Audience) {
     (0..SCENES).for_each(|s| play(s, audience));
     for Single { mask, mut table, boxes, lengths } in refusals::all() {
@@ -91,6 +114,11 @@ fn play_all(audience: &mut impl Audience) {
         audience.frame(&boxes, &table, &answer, lengths);
     }
     CAPPED.iter().for_each(|&s| play_capped(s, audience));
+    DROPPED.iter().for_each(|&s| play_dropped(s, audience));
+    for drops::Single { name, mut table, drop } in drops::singles() {
+        audience.begins(&name, &table);
+        forget(&drop, &mut table, audience);
+    }
 }
 
 // ---- the fixed list
@@ -105,6 +133,10 @@ impl Audience for Input {
 
     fn frame(&mut self, boxes: &Boxes, _: &Table, _: &Answer, lengths: [usize; 3]) {
         self.0.frame(boxes, lengths);
+    }
+
+    fn drop(&mut self, drop: &Drop, _: &Table, _: u32) {
+        self.0.drop(drop);
     }
 
     fn asked(&mut self, boxes: &Boxes, _: &Answer, lengths: [usize; 3], which: [usize; 2]) {
@@ -122,6 +154,10 @@ impl Audience for Lines {
 
     fn frame(&mut self, boxes: &Boxes, table: &Table, answer: &Answer, lengths: [usize; 3]) {
         self.0 += &(lines::frame(boxes, table, answer, lengths) + "\n");
+    }
+
+    fn drop(&mut self, drop: &Drop, table: &Table, refusal: u32) {
+        self.0 += &(lines::drop(&drop.ids, table, refusal) + "\n");
     }
 
     fn asked(&mut self, boxes: &Boxes, answer: &Answer, lengths: [usize; 3], [first, count]: [usize; 2]) {
@@ -144,6 +180,8 @@ impl Audience for Finite {
         self.accepted += (answer.refusal == 0) as usize;
         self.finite += (answer.refusal == 0 && answer.finite) as usize;
     }
+
+    fn drop(&mut self, _: &Drop, _: &Table, _: u32) {}
 }
 
 fn finite() {
@@ -178,6 +216,8 @@ impl Audience for Whole {
             show(&name, &table.floats[24 * i..24 * i + 24]);
         }
     }
+
+    fn drop(&mut self, _: &Drop, _: &Table, _: u32) {}
 }
 
 fn main() {

@@ -75,3 +75,9 @@ pub fn start(t: &mut BoostTracker, tracks: &[Track], last: u64, frames: u64) {
 pub fn table(t: &BoostTracker) -> (Vec<Track>, u64, u64) {
     (t.trackers.iter().map(inside::to).collect(), t.track_id_count as u64, t.frame_count as u64)
 }
+
+/// The tracks with these ids leave the list. The published tracker drops none by its id, so this hand is ours: document 02,
+/// N11, "the same tracks leave its list at each drop".
+pub fn forget(t: &mut BoostTracker, ids: &[u64]) {
+    t.trackers.retain(|track| !ids.contains(&(track.id() as u64)));
+}

@@ -1,7 +1,7 @@
 //! A lent table and the published tracker that works its frames.
 
 use crate::boxes::Boxes;
-use crate::verdict::{Call, State, capacity, verdict};
+use crate::verdict::{Call, State, capacity, drop_verdict, verdict};
 use jamtrack_rs::boost_tracker::boost_tracker::BoostTracker;
 use jamtrack_rs::boost_tracker::boost_tracker::inside::{self, Settings};
 use jamtrack_rs::boost_tracker::strack::inside::Track;
@@ -127,10 +127,30 @@ impl Table {
         self.state = State { count: tracks.len() as u64, last, frames };
     }
 
+    /// The ids of the held tracks.
+    pub fn ids(&self) -> Vec<u64> {
+        self.counters.chunks_exact(4).take(self.state.count as usize).map(|track| track[0]).collect()
+    }
+
+    fn labels_of_ids(&self) -> HashMap<usize, u8> {
+        self.ids().into_iter().map(|id| id as usize).zip(self.labels.iter().copied()).collect()
+    }
+
     /// The labels of a frame, for the rule in the published files.
     fn give_labels(&self, boxes: &Boxes) {
-        let ids = self.counters.chunks_exact(4).map(|track| track[0] as usize);
-        labels::give_frame(&boxes.labels, ids.zip(self.labels.iter().copied()).take(self.state.count as usize));
+        labels::give_frame(&boxes.labels, self.labels_of_ids().into_iter());
+    }
+
+    /// A drop of the tracks with these ids: the number why it is turned away, 0 where it is not. "An empty set changes
+    /// nothing"; otherwise the same tracks leave the Rust's list, and the table is what that list is then.
+    pub fn forget(&mut self, ids: &[u64]) -> u32 {
+        let refusal = drop_verdict(self.state, self.places(), &self.counters, &self.labels, ids);
+        if refusal == 0 && !ids.is_empty() {
+            let of_ids = self.labels_of_ids();
+            inside::forget(self.tracker(), ids);
+            self.store(&of_ids);
+        }
+        refusal
     }
 
     /// A frame with these boxes, and memory lent in these lengths.

@@ -6,6 +6,7 @@ pub mod boxes;
 pub mod call;
 pub mod digest;
 pub mod drawn;
+pub mod drops;
 pub mod frame;
 pub mod input;
 pub mod inputs;

@@ -1,4 +1,4 @@
-//! What crates/boost_tracker_vectors has to print of a table, of a frame and of a box that is asked about.
+//! What crates/boost_tracker_vectors has to print of a table, of a frame, of a box that is asked about and of a drop.
 
 use crate::boxes::Boxes;
 use crate::digest::{Digest, bits};
@@ -64,4 +64,12 @@ fn explained(answer: &Answer, index: usize) -> String {
     let told = told(&answer.stages, index);
     let floats = |list: &[f32; 3]| list.map(|x| format!(" {:08x}", bits(x))).concat();
     format!(" | {} {} |{} | {}{}", told.fate, told.id, floats(&told.scores), told.paired_id, floats(&told.overlap))
+}
+
+/// A drop: what it answered and left.
+pub fn drop(ids: &[u64], table: &Table, refusal: u32) -> String {
+    let State { count, last, frames } = table.state;
+    let given = Digest::new().words(ids.iter().copied());
+    let left = table_digest(table);
+    format!("drop {} | {refusal} | {count} {last} {frames} | {:016x} {:016x}", ids.len(), given.0, left.0)
 }

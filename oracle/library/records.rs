@@ -2,6 +2,7 @@
 //! stand for the bits of floats.
 
 use crate::boxes::Boxes;
+use crate::drops::Drop;
 use crate::frame::Table;
 
 /// How wide a title is.
@@ -72,6 +73,12 @@ impl Records {
         self.numbers(&[first, count]);
         self.floats(&boxes.values);
         self.bytes(&boxes.labels);
+    }
+
+    /// A drop over the table that was lent last.
+    pub fn drop(&mut self, drop: &Drop) {
+        self.numbers(&[if drop.single { 4 } else { 3 }, drop.ids.len()]);
+        drop.ids.iter().for_each(|&id| self.long(id));
     }
 }
 

@@ -40,6 +40,11 @@ fn base() -> Edited {
     Edited { table, boxes: boxes(2), out: 0, work64: 0, work32: 0 }
 }
 
+/// The table of such a call.
+pub fn base_table() -> Table {
+    base().table
+}
+
 /// 40 apart, of 16 by 32.
 fn boxes(count: usize) -> Boxes {
     let mut boxes = Boxes::default();

@@ -1,8 +1,9 @@
-//! The refusals of a frame, 11 to 19 from the scope document's words, 10 and 20 from document 02's, tested in their order;
-//! nothing of the port's.
+//! The refusals of a frame, 11 to 19 from the scope document's words, 10 and 20 from document 02's, tested in their order,
+//! and those of a drop, 11, 10, 101 and 102; nothing of the port's.
 
 use crate::boxes::Boxes;
 use jamtrack_rs::boost_tracker::boost_tracker::inside::Settings;
+use std::collections::HashSet;
 
 /// What stands beside the lent table, in the form of include/bedside.h.
 #[derive(Clone, Copy)]
@@ -33,13 +34,12 @@ pub fn capacity(floats: &[f32], counters: &[u64], labels: &[u8]) -> usize {
 
 /// "Count is at most its capacity, ids rise strictly from 1 or more, none exceeds last id, last id is at most 255 ×
 /// frame count, and every counter but id is at most frame count."
-fn sound(call: &Call) -> bool {
-    let State { count, last, frames } = call.state;
-    if count > call.places() as u64 || last as u128 > 255 * frames as u128 {
+fn sound(State { count, last, frames }: State, places: usize, counters: &[u64]) -> bool {
+    if count > places as u64 || last as u128 > 255 * frames as u128 {
         return false;
     }
     let mut before = 0;
-    for track in call.counters.chunks_exact(4).take(count as usize) {
+    for track in counters.chunks_exact(4).take(count as usize) {
         if track[0] <= before || track[0] > last || track[1..].iter().any(|&k| k > frames) {
             return false;
         }
@@ -87,7 +87,7 @@ impl Call<'_> {
 /// of a held track, after 11 and before 12; 20 such a label in a box, with the lowest such index, after 16 and before 17".
 pub fn verdict(call: &Call) -> (u32, usize) {
     let boxes = call.boxes.count();
-    if !sound(call) {
+    if !sound(call.state, call.places(), call.counters) {
         return (11, 0);
     }
     let held = call.state.count as usize;
@@ -123,4 +123,22 @@ pub fn verdict(call: &Call) -> (u32, usize) {
         return (19, 0);
     }
     (0, 0)
+}
+
+/// The number of a drop, 0 where it is accepted: "11, then 10 of the frame; then 101 an id given twice; then 102 an id not
+/// held".
+pub fn drop_verdict(state: State, places: usize, counters: &[u64], labels: &[u8], ids: &[u64]) -> u32 {
+    if !sound(state, places, counters) {
+        return 11;
+    }
+    let held = state.count as usize;
+    if labels[..held].iter().copied().any(unlabelled) {
+        return 10;
+    }
+    let different: HashSet<u64> = ids.iter().copied().collect();
+    if different.len() < ids.len() {
+        return 101;
+    }
+    let ids_held: HashSet<u64> = counters.chunks_exact(4).take(held).map(|track| track[0]).collect();
+    if different.is_subset(&ids_held) { 0 } else { 102 }
 }

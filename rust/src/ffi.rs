@@ -134,6 +134,13 @@ pub struct Explanation {
     pub union_area: f32,
 }
 
+#[derive(Clone, Copy)]
+#[repr(C)]
+pub struct ForgetAnswer {
+    pub refusal: u32,
+    pub state: State,
+}
+
 // SAFETY: the declarations are the header's, as the test below sees. The safe ones take and give values alone,
 // and the library is proved to accept every value.
 unsafe extern "C" {
@@ -210,6 +217,14 @@ unsafe extern "C" {
         box_labels: *const u8, box_labels_len: usize, out: *const u8, out_len: usize, work64: *mut f64,
         work64_len: usize, work32: *mut f32, work32_len: usize, index: usize,
     ) -> Explanation;
+    unsafe fn bedside_forget(
+        state: State, floats: *mut f32, floats_len: usize, counters: *mut u64, counters_len: usize,
+        labels: *mut u8, labels_len: usize, id: u64,
+    ) -> ForgetAnswer;
+    unsafe fn bedside_forget_set(
+        state: State, floats: *mut f32, floats_len: usize, counters: *mut u64, counters_len: usize,
+        labels: *mut u8, labels_len: usize, ids: *const u64, ids_len: usize,
+    ) -> ForgetAnswer;
 }
 
 pub fn convert_bbox_to_z(bbox: &[f32; 4]) -> [f32; 4] {
@@ -471,6 +486,39 @@ pub fn why(settings: Settings, state: State, lent: Lent<'_>, index: usize) -> Ex
             v.as_mut_ptr(),
             v.len(),
             index,
+        )
+    }
+}
+
+/// The table of tracks.
+pub struct Table<'a> {
+    pub floats: &'a mut [f32],
+    pub counters: &'a mut [u64],
+    pub labels: &'a mut [u8],
+}
+
+pub fn forget(state: State, table: Table<'_>, id: u64) -> ForgetAnswer {
+    let Table { floats: f, counters: c, labels: l } = table;
+    // SAFETY: each slice goes with its own length.
+    unsafe {
+        bedside_forget(state, f.as_mut_ptr(), f.len(), c.as_mut_ptr(), c.len(), l.as_mut_ptr(), l.len(), id)
+    }
+}
+
+pub fn forget_set(state: State, table: Table<'_>, ids: &[u64]) -> ForgetAnswer {
+    let Table { floats: f, counters: c, labels: l } = table;
+    // SAFETY: each slice goes with its own length.
+    unsafe {
+        bedside_forget_set(
+            state,
+            f.as_mut_ptr(),
+            f.len(),
+            c.as_mut_ptr(),
+            c.len(),
+            l.as_mut_ptr(),
+            l.len(),
+            ids.as_ptr(),
+            ids.len(),
         )
     }
 }

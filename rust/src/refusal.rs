@@ -1,14 +1,14 @@
-//! Why a frame is turned down, or a question about one of its boxes.
+//! Why a frame, a question about one of its boxes, or a drop is turned down.
 
 use core::fmt;
 
-/// Why a frame is turned down, or a question about one of its boxes. The call then changed nothing, and the tracker
-/// can be used on.
+/// Why a frame is turned down, a question about one of its boxes, or a drop of tracks. The call then changed nothing,
+/// and the tracker can be used on.
 ///
 /// Each variant is a number of the scope document, which [`number`](Refusal::number) gives. Where several apply,
-/// the first of 11, 10, 12 to 16, 20, 17 to 19, 81 is said. A [`Tracker`](crate::Tracker) keeps its table sound and
-/// has memory for every frame that fits into it, so it is not turned down with 10, 11, 18 or 19; they are here
-/// because the library knows them.
+/// the first of 11, 10, 12 to 16, 20, 17 to 19, 81 is said, and of a drop the first of 11, 10, 101, 102. A
+/// [`Tracker`](crate::Tracker) keeps its table sound and has memory for every frame that fits into it, so it is not
+/// turned down with 10, 11, 18 or 19; they are here because the library knows them.
 #[derive(Clone, Copy, Debug, PartialEq, Eq, Hash)]
 #[non_exhaustive]
 pub enum Refusal {
@@ -44,10 +44,14 @@ pub enum Refusal {
     },
     /// 81: the index is not below the number of boxes, of [`Tracker::why`](crate::Tracker::why) alone.
     NoBox,
+    /// 101: an id stands twice in the list of a drop.
+    IdTwice,
+    /// 102: an id of a drop is not that of a held track.
+    IdNotHeld,
 }
 
 impl Refusal {
-    /// The number of the refusal, 10 to 20 or 81.
+    /// The number of the refusal, 10 to 20, 81, 101 or 102.
     ///
     /// ```
     /// assert_eq!(bedside::Refusal::BadBox { index: 3 }.number(), 16);
@@ -66,6 +70,8 @@ impl Refusal {
             Refusal::WorkShort => 19,
             Refusal::BoxNotLabelled { .. } => 20,
             Refusal::NoBox => 81,
+            Refusal::IdTwice => 101,
+            Refusal::IdNotHeld => 102,
         }
     }
 
@@ -84,7 +90,9 @@ impl Refusal {
             19 => Refusal::WorkShort,
             20 => Refusal::BoxNotLabelled { index: index as usize },
             81 => Refusal::NoBox,
-            _ => unreachable!("libbedside.a is not this crate's: a frame has no refusal {number}"),
+            101 => Refusal::IdTwice,
+            102 => Refusal::IdNotHeld,
+            _ => unreachable!("libbedside.a is not this crate's: no frame or drop has the refusal {number}"),
         }
     }
 }
@@ -105,6 +113,8 @@ impl fmt::Display for Refusal {
             Refusal::WorkShort => f.write_str("a work slice is too short"),
             Refusal::BoxNotLabelled { index } => write!(f, "box {index} has a label other than 1 to 3"),
             Refusal::NoBox => f.write_str("the frame has no box of this index"),
+            Refusal::IdTwice => f.write_str("an id stands twice in the list"),
+            Refusal::IdNotHeld => f.write_str("an id is not that of a held track"),
         }
     }
 }
@@ -118,7 +128,7 @@ mod tests {
 
     #[test]
     fn a_number_and_its_refusal() {
-        for number in (10..=20).chain([81]) {
+        for number in (10..=20).chain([81, 101, 102]) {
             let refusal = Refusal::of(number, 7);
             assert_eq!(refusal.number(), number);
             assert!(refusal.to_string().starts_with(&std::format!("refused {number}: ")));

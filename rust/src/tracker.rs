@@ -214,6 +214,10 @@ impl Memory {
         self.counters.len() / 4
     }
 
+    fn table(&mut self) -> ffi::Table<'_> {
+        ffi::Table { floats: &mut self.floats, counters: &mut self.counters, labels: &mut self.labels }
+    }
+
     /// Takes the boxes, and lends what a frame with so many held tracks needs: work memory that is lent is
     /// cleared, which takes longer than a small frame. Of more than 255 boxes, 256 are enough to be refused.
     fn lend(&mut self, held: usize, boxes: &[Detection]) -> ffi::Lent<'_> {
@@ -327,6 +331,62 @@ impl Tracker {
         Ok(Explanation::of(&answer))
     }
 
+    /// Drops the track with this id, as when the bed is empty and a ghost is left. The other tracks go on as they
+    /// are, and no id is given again before a [`reset`](Tracker::reset). It allocates nothing.
+    ///
+    /// # Errors
+    ///
+    /// [`Refusal::IdNotHeld`] where no held track has it ([`held_ids`](Tracker::held_ids)). Nothing has changed
+    /// then.
+    pub fn forget(&mut self, id: u64) -> Result<(), Refusal> {
+        let answer = ffi::forget(self.state, self.memory.table(), id);
+        self.forgotten(answer)
+    }
+
+    /// Drops the tracks with these ids, all of them or none; an empty list changes nothing. Where it is accepted, it
+    /// leaves what dropping them one by one leaves, in whatever order.
+    ///
+    /// ```
+    /// use bedside::{Detection, Refusal, Settings, Tracker};
+    ///
+    /// let mut tracker = Tracker::new(Settings::new(0.6, 0.3, 30, 3));
+    /// let box_at = |left| Detection::new(left, 20.0, 32.0, 64.0, 0.75);
+    /// tracker.update(&[box_at(10.0), box_at(110.0), box_at(210.0)])?;
+    ///
+    /// assert_eq!(tracker.forget_set(&[3, 1, 3]), Err(Refusal::IdTwice));
+    /// assert_eq!(tracker.forget_set(&[3, 4]), Err(Refusal::IdNotHeld));
+    /// tracker.forget_set(&[3, 1])?;
+    /// assert!(tracker.held_ids().eq([2]));
+    /// assert_eq!(tracker.last_id(), 3);
+    /// # Ok::<(), Refusal>(())
+    /// ```
+    ///
+    /// A list of more ids than tracks are held is always turned away, but with which of the two numbers takes
+    /// m (m − 1) / 2 looks at an id for m ids none of which stands twice: a caller whose lists come from elsewhere
+    /// compares their length with [`held_tracks`](Tracker::held_tracks) before.
+    ///
+    /// # Errors
+    ///
+    /// [`Refusal::IdTwice`] where an id stands twice in the list, and then [`Refusal::IdNotHeld`] where one is not
+    /// held. Nothing has changed then.
+    pub fn forget_set(&mut self, ids: &[u64]) -> Result<(), Refusal> {
+        let answer = ffi::forget_set(self.state, self.memory.table(), ids);
+        self.forgotten(answer)
+    }
+
+    fn forgotten(&mut self, answer: ffi::ForgetAnswer) -> Result<(), Refusal> {
+        if answer.refusal != 0 {
+            return Err(Refusal::of(answer.refusal, 0));
+        }
+        self.state = answer.state;
+        Ok(())
+    }
+
+    /// The ids of the held tracks, rising.
+    pub fn held_ids(&self) -> impl ExactSizeIterator<Item = u64> + '_ {
+        self.memory.counters.chunks_exact(4).take(self.held_tracks()).map(|place| place[0])
+    }
+
     /// The frames worked so far, which is the number of the last one.
     #[must_use]
     pub fn frame_count(&self) -> u64 {
@@ -428,6 +488,40 @@ mod tests {
         // places are as many as there are labels
         assert_eq!(refusal_after(|t| t.memory.labels = Box::new([])), Some(Refusal::TableNotSound));
         assert_eq!(refusal_after(|t| t.memory.labels = Box::new([1])), Some(Refusal::TableFull));
+    }
+
+    #[test]
+    fn a_drop_from_a_table_that_is_not_sound() {
+        let refusal_of = |change: &dyn Fn(&mut Tracker), ids: &[u64]| {
+            let mut tracker = tracker();
+            change(&mut tracker);
+            let (state, counters) = (tracker.state, tracker.memory.counters.clone());
+            let refusal = tracker.forget_set(ids).err();
+            assert_eq!((tracker.state, &tracker.memory.counters), (state, &counters));
+            refusal
+        };
+        // 11, then 10, then 101, then 102, the first two also with an empty list
+        let both = |t: &mut Tracker| (t.memory.labels[0], t.state.count) = (0, 65);
+        for ids in [&[][..], &[1], &[2], &[2, 2]] {
+            assert_eq!(refusal_of(&both, ids), Some(Refusal::TableNotSound));
+            assert_eq!(refusal_of(&|t| t.memory.labels[0] = 4, ids), Some(Refusal::TrackNotLabelled));
+        }
+        assert_eq!(refusal_of(&|_| {}, &[2, 2]), Some(Refusal::IdTwice));
+        assert_eq!(refusal_of(&|_| {}, &[2]), Some(Refusal::IdNotHeld));
+        // what a frame would be turned down for and a drop is not
+        assert_eq!(refusal_of(&|t| t.memory.floats[0] = f32::NAN, &[]), None);
+    }
+
+    #[test]
+    fn an_empty_list_leaves_the_places_beyond_as_they_are() {
+        let mut tracker = tracker();
+        tracker.memory.counters[4..8].fill(9);
+        assert_eq!(tracker.forget_set(&[]), Ok(()));
+        assert_eq!(tracker.memory.counters[4..8], [9; 4]);
+        assert_eq!(tracker.forget(1), Ok(()));
+        assert!(tracker.memory.floats.iter().all(|&x| x == 0.0));
+        assert!(tracker.memory.counters.iter().all(|&k| k == 0));
+        assert!(tracker.memory.labels.iter().all(|&k| k == 0));
     }
 
     #[test]

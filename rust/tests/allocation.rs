@@ -1,4 +1,4 @@
-//! A tracker allocates when it is made, and never in a frame.
+//! A tracker allocates when it is made, and never in a frame or a drop.
 
 use bedside::{Detection, Settings, Tracker};
 use std::alloc::{GlobalAlloc, Layout, System};
@@ -28,7 +28,7 @@ unsafe impl GlobalAlloc for Counting {
 static ALLOCATOR: Counting = Counting;
 
 #[test]
-fn frames_do_not_allocate() {
+fn frames_and_drops_do_not_allocate() {
     let boxes: Vec<Detection> =
         (0..300).map(|k| Detection::new(50.0 * (k % 32) as f32, 20.0, 32.0, 64.0, 0.75)).collect();
     let before = ALLOCATIONS.with(Cell::get);
@@ -41,6 +41,14 @@ fn frames_do_not_allocate() {
         let count = if frame % 40 == 39 { 256 } else { frame % 20 };
         out +=
             tracker.update(&boxes[..count]).map_or(0, |tracks| tracks.map(|track| track.id as usize).sum());
+        if frame % 10 == 9 {
+            let last = tracker.last_id();
+            // one that is held, and lists that are turned away
+            let first = tracker.held_ids().next().expect("a held track");
+            assert_eq!(tracker.forget(first), Ok(()));
+            assert!(tracker.forget(last + 1).is_err());
+            assert!(tracker.forget_set(&[last, last]).is_err());
+        }
     }
     tracker.reset();
     assert_eq!(ALLOCATIONS.with(Cell::get), made);

@@ -4,3 +4,4 @@ pub mod Filter
 pub mod Pairs
 pub mod Frame
 pub mod Why
+pub mod Forget

@@ -2,6 +2,7 @@
 // contract cites the same definition as the function that it calls.
 mod assignment;
 mod filter;
+mod forget;
 mod frame;
 mod pairs;
 mod why;

@@ -9,6 +9,7 @@ use lib.ListN.{length, getD, take}
 use lib.Seq.{getD-take}
 use lib.Ieee.{Float}
 use Rattle.laws.specs.Tab.{tab-ext, tab-map, indices}
+use Rattle.laws.specs.Picked.{picked-below}
 use Rattle.laws.specs.Sieve.{sieve}
 use Rattle.laws.specs.Laid.{laid}
 use Rattle.laws.specs.Over.{over-front}
@@ -32,7 +33,6 @@ use Rattle.boost_tracker_verdict.specs.Ready.{Ready}
 use Rattle.boost_tracker_verdict.proofs.ReadyLaws.{ready}
 use Rattle.boost_tracker_definition.specs.Update.{Stages, stagesFrom, steps, updateBy, update, labelsRetained}
 use Rattle.boost_tracker_definition.specs.Facts.{FrameFacts, labelsAll}
-use Rattle.boost_tracker_definition.proofs.LabelFacts.{kept-below}
 use Rattle.boost_tracker_definition.proofs.FactLaws.{frame-facts, started-few}
 use Rattle.boost_tracker_steps.specs.declared.all_steps.Advanced.{Advanced}
 use Rattle.boost_tracker_steps.specs.AllSteps.{refusedAdvance, acceptedAdvance, Lent, lentWith, lentAfter, advanced}
@@ -48,7 +48,7 @@ unfolding labelsWhere
 where-front p ts l n h =
     let inds : List ℕ = sieve (λ i. p (getD ts i blank)) (indices (length ts)) in
     let same : (k : ℕ) → k < length inds → labelAt l (getD inds k 0) ≡ labelAt (take n l) (getD inds k 0) =
-    λ k b. sym (getD-take n l (getD inds k 0) 0 (le-trans (kept-below (λ i. p (getD ts i blank)) (length ts) k b) h)) in
+    λ k b. sym (getD-take n l (getD inds k 0) 0 (le-trans (picked-below (λ i. p (getD ts i blank)) (length ts) k b) h)) in
     sym (tab-map (labelAt l) inds (length inds) 0 refl) ∙ tab-ext _ _ (length inds) same ∙ tab-map (labelAt (take n l)) inds (length inds) 0 refl
 
 -- ---- step 8
@@ -75,7 +75,7 @@ finish-is s state a f c n out {f₁} {f₂} {c₁} {c₂} {n₁} {n₂} {out′}
     let ends = lay-finished (lay-here f c all) many fits low retires empties in
     let ls : List ℕ = labelsWhere young′ ts (take all n) in
     let labelled : n₂ ≡ zeroFilled ls places n =
-    labels-finished f c n all (s .«max_age») places fits low long (ends .0) named clears ∙ ap (λ (l : List ℕ). zeroFilled l places n) (where-front young′ ts n all (le-of-eq many)) in
+    labels-finished f c n all young′ places fits low long (ends .0) named clears ∙ ap (λ (l : List ℕ). zeroFilled l places n) (where-front young′ ts n all (le-of-eq many)) in
     rw (ends .0, ends .1 .floats, ends .1 .counters, labelled, ep, shown .count, shown .bytes)
 
 -- ---- a call

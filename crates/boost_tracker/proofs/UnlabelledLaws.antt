@@ -5,9 +5,9 @@ use mathlib.Core.List.{List, [], _∷_, _++_}
 use Prim.Native.Nat.{ℕ, suc, _<_}
 use native.Mathlib.Omega.{arith}
 use lib.ListN.{length, length-map, getD, replicate}
-use Rattle.laws.specs.Tab.{tab-of, replicate-tab, indices}
+use Rattle.laws.specs.Tab.{tab-of, replicate-tab, map-at, indices}
 use Rattle.laws.specs.Sieve.{sieve}
-use Rattle.laws.specs.Picked.{sieve-places}
+use Rattle.laws.specs.Picked.{sieve-places, picked-below}
 use Rattle.laws.specs.Laid.{rows, laid, rows-map}
 use Rattle.labels.specs.Label.{labelAt}
 use Rattle.records.specs.Field.{littleEndian}
@@ -17,7 +17,6 @@ use Rattle.boost_tracker_emission.specs.Record.{recordOf, recordBytes}
 use Rattle.boost_tracker_emission.specs.Emission.{emits, emitted, emittedInds, bytesAt}
 use Rattle.boost_tracker_emission.proofs.Laws.{emitted-many}
 use Rattle.boost_tracker_table.proofs.LabelLaws.{labels-many}
-use Rattle.boost_tracker_definition.proofs.LabelFacts.{image-at, kept-below}
 use Rattle.boost_tracker.specs.Unlabelled.{bytesBefore}
 
 -- records that agree on a list's elements
@@ -46,7 +45,7 @@ module _ (ts : List Track) (labels : List ℕ) (label : ℕ) (one : (i : ℕ) �
       let each : rows (bytesAt cap frame ts labels) inds ≡ rows (λ i. with (at i)) inds =
       rows-agree (bytesAt cap frame ts labels) (λ i. with (at i)) inds 0
       (λ k h. let i : ℕ = getD inds k 0 in
-      ap (recordBytes cap frame (at i)) (one i (kept-below (λ i. emits frame hits (at i)) (length ts) k h)) ∙ label-last cap frame (at i) label) in
+      ap (recordBytes cap frame (at i)) (one i (picked-below (λ i. emits frame hits (at i)) (length ts) k h)) ∙ label-last cap frame (at i) label) in
       let all : rows (bytesAt cap frame ts labels) inds ≡ rows with (emitted frame hits ts) = each ∙ rows-map with at inds ∙ ap (rows with) (sieve-places (emits frame hits) ts blank) in
       rw (all, emitted-many frame hits ts)
 
@@ -58,5 +57,5 @@ module _ (ts : List Track) (labels : List ℕ) (label : ℕ) (one : (i : ℕ) �
       let many : length (labelsWhere p ts labels) ≡ n = labels-many p ts labels in
       tab-of (λ _. label) (labelsWhere p ts labels) n 0 many
       (λ k h. let c : k < length inds = rw (length-map inds (labelAt labels)) at (rw (sym many) at h) in
-      image-at (labelAt labels) inds k c ∙ one (getD inds k 0) (kept-below (λ i. p (at i)) (length ts) k c))
+      map-at (labelAt labels) inds k 0 0 c ∙ one (getD inds k 0) (picked-below (λ i. p (at i)) (length ts) k c))
       ∙ sym (replicate-tab n label)

@@ -29,7 +29,7 @@ use Rattle.boost_tracker_verdict.specs.declared.sound.State.{State}
 use Rattle.boost_tracker_table.specs.Table.{Track, blank, young, retained, Emptied}
 use Rattle.boost_tracker_table.specs.Lent.{Table, placesOf, tracksIn, labelsIn, holding}
 use Rattle.boost_tracker_table.proofs.Laws.{emptied-tracks}
-use Rattle.boost_tracker_table.proofs.LabelLaws.{held-places, held-labels}
+use Rattle.boost_tracker_table.proofs.LabelLaws.{labels-where-are, none-unlabelled, held-places, held-labels}
 use Rattle.boost_tracker_table.proofs.LabelLaws as table
 use Rattle.boost_tracker_verdict.specs.Sound.{rising}
 use Rattle.boost_tracker_verdict.specs.Boxes.{Boxes}
@@ -41,7 +41,7 @@ use Rattle.boost_tracker_definition.specs.Facts.{pairAt, correctionAt, l
 use Rattle.boost_tracker_definition.specs.Plain.{correctedBy, startedBy}
 use Rattle.boost_tracker_definition.proofs.PlainLaws.{all-above, matched-is, started-is}
 use Rattle.boost_tracker_definition.proofs.TrackFacts.{hit-is, hits-many, news-many, old-id, new-id-is, sound-after}
-use Rattle.boost_tracker_definition.proofs.LabelFacts.{Labelled, labels-many, old-label, new-label, all-labels, labels-where-are, none-unlabelled, remain-below}
+use Rattle.boost_tracker_definition.proofs.LabelFacts.{Labelled, labels-many, old-label, new-label, all-labels, remain-below}
 
 -- ---- the pairs
 

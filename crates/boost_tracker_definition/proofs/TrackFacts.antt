@@ -1,54 +1,36 @@
 -- Tracks that were held, corrected at most once, and tracks started behind them: their table is sound, and their ids are those held before and the next ones. Assumes nothing.
 use mathlib.Core.Path.{_≡_, refl, sym, ap, _∙_}
-use mathlib.Core.Bool.{Bool, true, false, cond, _&&_}
+use mathlib.Core.Bool.{Bool, true, false, _&&_}
 use mathlib.Core.List.{List, [], _∷_, _++_, map}
 use Prim.Native.Nat.{ℕ, zero, suc, _+_, _-_, _*_, _^_, _≤_, _<_, zero-le}
-use native.Mathlib.Nat.{le-refl, le-trans, lt-of-not-le}
+use native.Mathlib.Nat.{le-refl, lt-of-not-le}
 use native.Mathlib.Decide.{decLe}
 use native.Mathlib.Omega.{arith}
 use lib.Dec.{ltb, leb, eqb}
 use lib.ListN.{length, length-map, getD, List·getD-map, List·getD-append}
 use lib.Seq.{getD-set-same, getD-set-other, getD-append-add, map-set-same}
 use lib.Ieee.{Float}
-use borrow.Author.Tests.{ltb-true, lt-ltb, leb-true, le-leb, eqb-true, eqb-false}
+use borrow.Author.Tests.{lt-ltb, leb-true, le-leb, eqb-true, eqb-false}
 use Rattle.laws.specs.Tests.{and-left, and-right}
 use Rattle.laws.specs.Tab.{tab, length-tab, tab-at, getD-any}
 use Rattle.laws.specs.Fold.{fold}
-use Rattle.laws.specs.Sieve.{sieve, sieve-few}
-use Rattle.laws.specs.Every.{every, every-append, every-of, every-sieve}
+use Rattle.laws.specs.Sieve.{sieve}
+use Rattle.laws.specs.Every.{every, every-append, every-of}
 use Rattle.strack.specs.declared.rect.Xyxy.{Xyxy}
 use Rattle.strack_filter.specs.KalmanFilter.{updatable}
 use Rattle.strack.specs.Strack.{predict, update}
 use Rattle.strack.proofs.Laws.{new-id, new-since, new-streak, new-age, predict-id, predict-since, predict-age, predict-streak-le, hit-id, hit-since, hit-streak, hit-age, update-accepted, update-refused}
 use Rattle.boost_tracker_mh_dist.specs.MhDist.{det}
 use Rattle.boost_tracker_verdict.specs.declared.sound.State.{State}
-use Rattle.boost_tracker_table.specs.Table.{Track, blank, corrected}
+use Rattle.boost_tracker_table.specs.Table.{Track, idsOf, blank, corrected}
 use Rattle.boost_tracker_verdict.specs.Sound.{rising, countersIn, sound}
 use Rattle.boost_tracker_verdict.specs.Ready.{HeldTrack}
+use Rattle.boost_tracker_verdict.proofs.SoundLaws.{rising-lower, sound-sieve}
 use Rattle.boost_tracker_definition.specs.Update.{trackerAt}
 use Rattle.boost_tracker_definition.specs.Plain.{correctedBy, correctOne, startedBy, startAt}
 use Rattle.boost_tracker_definition.proofs.PlainLaws.{correct-many, corrected-many}
 
 -- ---- ids that rise
-
-rising-lower : (low high : ℕ) (ts : List Track) → low ≤ high → rising high ts ≡ true → rising low ts ≡ true
-unfolding rising
-rising-lower low high [] h e = refl
-rising-lower low high (t ∷ ts) h e =
-    let above = ltb-true high (t .id) (and-left (ltb high (t .id)) _ e) in
-    rw (lt-ltb low (t .id) (omega arith)) (and-right (ltb high (t .id)) _ e)
-
-rising-sieve : (q : Track → Bool) (low : ℕ) (ts : List Track) → rising low ts ≡ true → rising low (sieve q ts) ≡ true
-unfolding rising sieve
-rising-sieve q low [] e = refl
-rising-sieve q low (t ∷ ts) e = by-cases (q t) (rising-sieve q (t .id) ts (and-right (ltb low (t .id)) _ e))
-  where
-    first : ltb low (t .id) ≡ true
-    first = and-left (ltb low (t .id)) _ e
-
-    by-cases : (b : Bool) → rising (t .id) (sieve q ts) ≡ true → rising low (cond b (t ∷ sieve q ts) (sieve q ts)) ≡ true
-    by-cases true r = rw first r
-    by-cases false r = rising-lower low (t .id) (sieve q ts) (let h = ltb-true low (t .id) first in omega arith) r
 
 rising-append : (low last : ℕ) (xs ys : List Track) → rising low xs ≡ true → every (λ t. leb (t .id) last) xs ≡ true → low ≤ last → rising last ys ≡ true → rising low (xs ++ ys) ≡ true
 unfolding rising every
@@ -57,21 +39,18 @@ rising-append low last (x ∷ xs) ys e k h r =
     rw (and-left (ltb low (x .id)) _ e)
     (rising-append (x .id) last xs ys (and-right (ltb low (x .id)) _ e) (and-right (leb (x .id) last) _ k) (leb-true (x .id) last (and-left (leb (x .id) last) _ k)) r)
 
-abbrev ids : List Track → List ℕ
-ids ts = map (λ (t : Track). t .id) ts
-
 risingIds : ℕ → List ℕ → Bool
 risingIds low [] = true
 risingIds low (i ∷ is) = ltb low i && risingIds i is
 
-rising-is : (low : ℕ) (ts : List Track) → rising low ts ≡ risingIds low (ids ts)
+rising-is : (low : ℕ) (ts : List Track) → rising low ts ≡ risingIds low (idsOf ts)
 unfolding rising risingIds
 rising-is low [] = refl
 rising-is low (t ∷ ts) = ap (λ (b : Bool). ltb low (t .id) && b) (rising-is (t .id) ts)
 
-ids-predicted : (ts : List Track) → ids (map predict ts) ≡ ids ts
+ids-predicted : (ts : List Track) → idsOf (map predict ts) ≡ idsOf ts
 ids-predicted [] = refl
-ids-predicted (t ∷ ts) = ap (λ (i : ℕ). i ∷ ids (map predict ts)) (predict-id t) ∙ ap (λ (is : List ℕ). t .id ∷ is) (ids-predicted ts)
+ids-predicted (t ∷ ts) = ap (λ (i : ℕ). i ∷ idsOf (map predict ts)) (predict-id t) ∙ ap (λ (is : List ℕ). t .id ∷ is) (ids-predicted ts)
 
 -- ---- a corrected track
 
@@ -102,12 +81,12 @@ corrected-id t b = by-cases (updatable (t .kf)) refl
     by-cases false e = rw (update-refused t b e)
 
 module _ (corners : List Float) (pairBoxes pairTracks : List ℕ) (ts : List Track) where
-  ids-upto : (k : ℕ) → ids (fold (correctOne corners pairBoxes pairTracks) ts k) ≡ ids ts
+  ids-upto : (k : ℕ) → idsOf (fold (correctOne corners pairBoxes pairTracks) ts k) ≡ idsOf ts
   unfolding fold
   ids-upto zero = refl
   ids-upto (suc k) = map-set-same (λ (t : Track). t .id) (fold (correctOne corners pairBoxes pairTracks) ts k) (getD pairTracks k 0) _ blank (corrected-id _ _) ∙ ids-upto k
 
-  ids-corrected : ids (correctedBy corners pairBoxes pairTracks ts) ≡ ids ts
+  ids-corrected : idsOf (correctedBy corners pairBoxes pairTracks ts) ≡ idsOf ts
   unfolding correctedBy
   ids-corrected = ids-upto (length pairBoxes)
 
@@ -258,7 +237,7 @@ module _ (state : State) (ts : List Track) (each : (i : ℕ) → i < length ts �
   hits-rise : rising 0 hits ≡ true
   hits-rise = rising-is 0 hits ∙ ap (risingIds 0) hit-ids-same ∙ sym (rising-is 0 ts) ∙ rises
     where
-      hit-ids-same : ids hits ≡ ids ts
+      hit-ids-same : idsOf hits ≡ idsOf ts
       hit-ids-same = ids-corrected corners pairBoxes pairTracks (map predict ts) ∙ ids-predicted ts
 
   news-rise : rising (state .last) news ≡ true
@@ -285,10 +264,9 @@ module _ (state : State) (ts : List Track) (each : (i : ℕ) → i < length ts �
   sound-after q places low few room =
       let all : List Track = hits ++ news in
       let last : ℕ = state .last + length unmatched in
-      let fits : length (sieve q all) ≤ places = le-trans (sieve-few q all) room in
-      let rise : rising 0 (sieve q all) ≡ true = rising-sieve q 0 all (rising-append 0 (state .last) hits news hits-rise (hit-ids (state .last) (le-refl (state .last))) zero-le news-rise) in
-      let known : every (λ t. leb (t .id) last) (sieve q all) ≡ true =
-      every-sieve (λ t. leb (t .id) last) q all (every-append (λ t. leb (t .id) last) hits news ∙ rw (hit-ids last (omega arith), new-ids)) in
-      let counted : every (countersIn (state .frames + 1)) (sieve q all) ≡ true =
-      every-sieve (countersIn (state .frames + 1)) q all (every-append (countersIn (state .frames + 1)) hits news ∙ rw (hit-counters, new-counters)) in
-      rw (le-leb (length (sieve q all)) places fits, rise, known, le-leb last (255 * (state .frames + 1)) (omega arith), counted)
+      let now : State = record { count = length all; last = last; frames = state .frames + 1 } in
+      let rise : rising 0 all ≡ true = rising-append 0 (state .last) hits news hits-rise (hit-ids (state .last) (le-refl (state .last))) zero-le news-rise in
+      let known : every (λ t. leb (t .id) last) all ≡ true = every-append (λ t. leb (t .id) last) hits news ∙ rw (hit-ids last (omega arith), new-ids) in
+      let counted : every (countersIn (state .frames + 1)) all ≡ true = every-append (countersIn (state .frames + 1)) hits news ∙ rw (hit-counters, new-counters) in
+      let all-sound : sound places now all ≡ true = rw (le-leb (length all) places room, rise, known, le-leb last (255 * (state .frames + 1)) (omega arith), counted) in
+      sound-sieve q places now all room all-sound

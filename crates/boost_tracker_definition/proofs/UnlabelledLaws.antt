@@ -7,6 +7,7 @@ use native.Mathlib.Omega.{arith}
 use lib.ListN.{length, length-map, getD}
 use lib.Ieee.{Float}
 use borrow.Author.Tests.{eq-eqb}
+use Rattle.laws.specs.Tab.{map-at}
 use Rattle.labels.specs.Label.{labelAt, sameLabel, always, alike}
 use Rattle.strack.specs.Strack.{predict}
 use Rattle.boost_tracker_mh_dist.specs.MhDist.{getMhDistMatrix}
@@ -21,7 +22,7 @@ use Rattle.boost_tracker_verdict.specs.Boxes.{Boxes}
 use Rattle.boost_tracker_verdict.specs.Verdict.{boxesIn}
 use Rattle.boost_tracker_definition.specs.Update.{some, trackerAt, bboxes, scores, trks, confs, dloSettings, dlo, afterDlo, afterDuo, remainInds, detBboxes, detScores, detLabels, mhDist, params, result, stagesFrom, steps, updateBy}
 use Rattle.boost_tracker_definition.specs.Unlabelled.{dloUnlabelled, stepsUnlabelled, OfBefore}
-use Rattle.boost_tracker_definition.proofs.LabelFacts.{image-at, remain-below}
+use Rattle.boost_tracker_definition.proofs.LabelFacts.{remain-below}
 use Rattle.boost_tracker_definition.proofs.FactLaws.{dlo-many, duo-many, scores-many, scores-of, kept-few}
 
 -- two ways of pairing that agree on the boxes that remain
@@ -35,7 +36,7 @@ stages-agree self frame last objects predicted once pairs pairs′ e = rw e
 
 label-at : (boxLabels inds : List ℕ) (i : ℕ) → i < length inds → labelAt (detLabels boxLabels inds) i ≡ labelAt boxLabels (getD inds i 0)
 unfolding detLabels
-label-at boxLabels inds i h = image-at (labelAt boxLabels) inds i h
+label-at boxLabels inds i h = map-at (labelAt boxLabels) inds i 0 0 h
 
 module _ (self : Settings) (frame last : ℕ) (objects : Boxes) (predicted : List Track) (labels : List ℕ) where
   abbrev values : List Float

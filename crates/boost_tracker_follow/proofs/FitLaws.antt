@@ -9,10 +9,9 @@ use lib.Dec.{leb, ltb}
 use lib.ListN.{length, getD}
 use borrow.Author.Tests.{ltb-true, ltb-false, leb-true, leb-false, lt-ltb, le-ltb, le-leb, lt-leb}
 use Rattle.laws.specs.Tests.{and-left, and-right}
-use Rattle.laws.specs.Scan.{lowest}
+use Rattle.laws.specs.Scan.{lowest, lowest-never}
 use Rattle.laws.specs.Every.{lowest-none}
 use Rattle.assoc_assignment.specs.declared.assignment.AssignmentCounts.{AssignmentCounts}
-use Rattle.boost_tracker_definition.proofs.LabelFacts.{lowest-never}
 use Rattle.boost_tracker_follow.specs.Corrections.{inside, fits, Listed}
 
 -- ---- counts, places and ids

@@ -23,13 +23,17 @@ use Rattle.boost_tracker_verdict.specs.Verdict.{whereAccepted}
 use Rattle.boost_tracker_definition.specs.Update.{Stages}
 use Rattle.boost_tracker.specs.declared.frame.UpdateAnswer.{UpdateAnswer}
 use Rattle.boost_tracker.specs.Frame.{refusedAnswer, acceptedAnswer, Memory, memoryAfter, labelsOf, updated}
+use Rattle.boost_tracker_forget.specs.declared.refusal.ForgetVerdict.{ForgetVerdict}
+use Rattle.boost_tracker_forget.specs.declared.refusal.ForgetVerdict.the-variants.{Accepted as Dropped, Refused as NotDropped}
+use Rattle.boost_tracker_forget.specs.declared.drops.Forgotten.{Forgotten}
+use Rattle.boost_tracker_forget.specs.Forget as forget
 use Rattle.trackbox_stream.specs.Stream.{work, refuse, Printed, printedWith, framed, happens, prints, printing}
 use Rattle.trackbox_stream.specs.Stream as stream
 use Rattle.trackbox_feed.specs.Trackbox.{Tracker, trackerWith, stages, begin, frameBoxes}
 use Rattle.trackbox_feed.specs.Trackbox as trackbox
-use Rattle.boost_tracker_history.specs.History.{fresh, Frame, answered, worked, Holds, frame, moved, held, idsStarted, idsRetired, History, empty, then, given, retired}
+use Rattle.boost_tracker_history.specs.History.{fresh, Frame, answered, worked, Holds, frame, forgets, moved, held, idsStarted, idsRetired, idsDropped, History, empty, then, given, retired}
 use Rattle.boost_tracker_history.specs.Balance.{Balanced, Fair, EveryHistory}
-use Rattle.boost_tracker_history.specs.Calls.{lending, Calls, none, call, copied, frameOf, givenBy, retiredBy, Told, CallsAreAHistory, EveryRowOfCalls}
+use Rattle.boost_tracker_history.specs.Calls.{lending, Calls, none, call, drop, copied, frameOf, givenBy, whereDropped, retiredBy, Told, CallsAreAHistory, EveryRowOfCalls}
 use Rattle.boost_tracker_history.specs.Night.{Night, evening, nightThen, nightOn, night, EveryNight}
 use Rattle.boost_tracker_history.specs.Night as nights
 use Rattle.boost_tracker_history.proofs.EventLaws.{fair}
@@ -110,15 +114,31 @@ module _ {t : Tracker} {G R : List ℕ} (w : Told t G R) (s : Settings) (boxes :
       let leaves : m′ ≡ m = ap (λ (k : lent.Call UpdateAnswer Memory). k .lent) ends in
       rw (answers, leaves, append-nil G, append-nil R) w
 
+-- a drop by its verdict
+module _ {t : Tracker} {G R : List ℕ} (w : Told t G R) (named : List ℕ) where
+  forgot : {r : Forgotten} {table : Table} (v : ForgetVerdict) → forget.verdict (t .state) (t .table) named ≡ v → callWith r table ≡ forget.ends v (t .state) (t .table) named
+      → Told (trackerWith (r .state) table) G (R ++ whereDropped (r .verdict) (idsDropped t named))
+  unfolding given retired
+  forgot {r} {table} Dropped accepted ends =
+      let answers = ap (λ (k : lent.Call Forgotten Table). k .answer) ends in
+      let leaves = ap (λ (k : lent.Call Forgotten Table). k .lent) ends in
+      rw (answers, leaves)
+      (record { history = then (w .history) (forgets named accepted); given-are = append-nil (given (w .history)) ∙ w .given-are; retired-are = rw (w .retired-are) })
+  forgot {r} {table} (NotDropped why) refused ends =
+      let answers = ap (λ (k : lent.Call Forgotten Table). k .answer) ends in
+      let leaves = ap (λ (k : lent.Call Forgotten Table). k .lent) ends in
+      rw (answers, leaves, append-nil R) w
+
 moved-on : {t : Tracker} {G R : List ℕ} → Told t G R → (table : Table) (h : Holds t table) → Told (trackerWith (t .state) table) G R
 unfolding given retired
 moved-on w table h =
     record { history = then (w .history) (moved table h); given-are = append-nil (given (w .history)) ∙ w .given-are; retired-are = append-nil (retired (w .history)) ∙ w .retired-are }
 
 row-told : {t : Tracker} (cs : Calls t) → Told t (givenBy cs) (retiredBy cs)
-unfolding given retired givenBy retiredBy updated
+unfolding given retired givenBy retiredBy updated forget.forgotten
 row-told (none table) = record { history = empty table; given-are = refl; retired-are = refl }
 row-told (call {t} cs c) = called (row-told cs) (c .settings) (c .boxes) (c .output) (c .work64) (c .work32) (answered t (frameOf c)) refl (c .ends)
+row-told (drop {t} cs c) = forgot (row-told cs) (c .named) (forget.verdict (t .state) (t .table) (c .named)) refl (c .ends)
 row-told (copied cs table h) = moved-on (row-told cs) table h
 
 pub calls-told : CallsAreAHistory

@@ -7,8 +7,9 @@ use lib.ListN.{length}
 use Rattle.laws.specs.Tab.{tab}
 use Rattle.laws.specs.Occurs.{occurs}
 use Rattle.boost_tracker_verdict.specs.Sound.{soundTable}
+use Rattle.boost_tracker_forget.specs.Forget.{Accepts}
 use Rattle.trackbox_feed.specs.Trackbox.{Tracker}
-use Rattle.boost_tracker_history.specs.History.{held, Event, after, gives, retires, History, given, retired}
+use Rattle.boost_tracker_history.specs.History.{held, idsDropped, Event, after, gives, retires, History, given, retired}
 
 -- the tracker that a history has led to, the ids that it gave and those that it retired
 pub record Balanced (t : Tracker) (given retired : List ℕ) : Type 0 where
@@ -43,3 +44,7 @@ EveryHistory = (t : Tracker) (h : History t) → Balanced t (given h) (retired h
 -- by that of events, from any tracker whose table is sound: `fair` of proofs/EventLaws.antt
 abbrev pub EveryEvent : Type 0
 EveryEvent = (t : Tracker) → soundTable (t .state) (t .table) ≡ true → (e : Event t) → Fair t (after e) (gives e) (retires e)
+
+-- N11: "Dropped tracks count as retired": what an accepted drop retires are the ids that its list names, each once, as no list that names one twice is accepted. `dropped-once` there
+abbrev pub EveryDrop : Type 0
+EveryDrop = (t : Tracker) (named : List ℕ) → Accepts (t .state) (t .table) named → (id : ℕ) → occurs id (idsDropped t named) ≡ occurs id named

@@ -1,19 +1,20 @@
--- Document 02, N7: "Over any sequence of accepted frames from an empty table, tracks started equal tracks held plus tracks retired, both counted from the history of frames, and no id is given twice."
+-- Document 02, N7: "Over any sequence of accepted frames from an empty table, tracks started equal tracks held plus tracks retired, both counted from the history of frames, and no id is given twice." N11: "Dropped tracks count as retired in N7's balance."
 -- A history is such a sequence: an empty table, and events one after the other, each on the tracker that the one before left. Each event has the ids that it gives and the ids that it retires.
 use mathlib.Core.Path.{_≡_}
 use mathlib.Core.Bool.{not}
-use mathlib.Core.List.{List, [], _++_, map}
+use mathlib.Core.List.{List, [], _++_}
 use Prim.Native.Nat.{ℕ, _≤_}
 use lib.ListN.{length, drop}
 use Rattle.laws.specs.Sieve.{sieve}
 use Rattle.boost_tracker_settings.specs.declared.settings.Settings.{Settings}
-use Rattle.boost_tracker_table.specs.Table.{Track, young}
+use Rattle.boost_tracker_table.specs.Table.{Track, idsOf, young, unlisted}
 use Rattle.boost_tracker_table.specs.Lent.{Table, placesOf, tracksIn, labelsIn, holding}
 use Rattle.boost_tracker_verdict.specs.declared.refusal.Verdict.{Verdict}
 use Rattle.boost_tracker_verdict.specs.declared.refusal.Verdict.the-variants.{Accepted}
 use Rattle.boost_tracker_verdict.specs.Boxes.{Boxes}
 use Rattle.boost_tracker_verdict.specs.Verdict.{verdict}
 use Rattle.boost_tracker_definition.specs.Update.{Stages, update, stateAfter, labelsStarted, labelsRetained}
+use Rattle.boost_tracker_forget.specs.Forget.{Accepts, dropped}
 use Rattle.trackbox_feed.specs.Trackbox.{Tracker, trackerWith}
 
 -- ---- a tracker between two events: the lent table, and the state beside it
@@ -49,6 +50,11 @@ leaves t f =
     let g : Stages = worked t f in
     trackerWith (stateAfter g) (holding (g .retained) (labelsRetained (f .settings) (labelsStarted (f .boxes .labels) (labelsOf t) g) g) (t .table))
 
+-- ---- a drop of the tracks that a list names, document 02, N11, and what it leaves where it is accepted
+
+abbrev pub dropping : Tracker → List ℕ → Tracker
+dropping t named = trackerWith (dropped (t .state) (t .table) named .answer) (dropped (t .state) (t .table) named .lent)
+
 -- ---- events
 
 -- a table, of any size, that has the tracker's tracks and labels in its front
@@ -60,36 +66,42 @@ pub record Holds (t : Tracker) (table : Table) : Type 0 where
 pub data Event (t : Tracker) : Type 0 where
   -- a frame that is accepted
   frame : (f : Frame) → answered t f ≡ Accepted → Event t
+  -- a drop that is accepted
+  forgets : (named : List ℕ) → Accepts (t .state) (t .table) named → Event t
   -- the table is lent in another size: what it holds was copied
   moved : (table : Table) → Holds t table → Event t
 
 abbrev pub after : {t : Tracker} → Event t → Tracker
 after {t} (frame f accepted) = leaves t f
+after {t} (forgets named accepted) = dropping t named
 after {t} (moved table holds) = trackerWith (t .state) table
 
 -- ---- ids
 
-abbrev pub ids : List Track → List ℕ
-ids ts = map (λ (t : Track). t .id) ts
-
 -- those of the tracks that a tracker holds
 abbrev pub held : Tracker → List ℕ
-held t = ids (tracksOf t)
+held t = idsOf (tracksOf t)
 
 -- step 7 puts the tracks that it starts behind those that step 6 leaves
 abbrev pub idsStarted : Stages → List ℕ
-idsStarted g = ids (drop (length (g .matched)) (g .started .trackers))
+idsStarted g = idsOf (drop (length (g .matched)) (g .started .trackers))
 
 -- step 8 retains of all these the ones whose time since update is at most max_age, and the others are retired
 abbrev pub idsRetired : Settings → Stages → List ℕ
-idsRetired s g = ids (sieve (λ t. not (young (s .«max_age») t)) (g .started .trackers))
+idsRetired s g = idsOf (sieve (λ t. not (young (s .«max_age») t)) (g .started .trackers))
+
+-- N11: "Dropped tracks count as retired": those that the list names, in the table's order
+abbrev pub idsDropped : Tracker → List ℕ → List ℕ
+idsDropped t named = idsOf (sieve (λ x. not (unlisted named x)) (tracksOf t))
 
 abbrev pub gives : {t : Tracker} → Event t → List ℕ
 gives {t} (frame f accepted) = idsStarted (worked t f)
+gives {t} (forgets named accepted) = []
 gives {t} (moved table holds) = []
 
 abbrev pub retires : {t : Tracker} → Event t → List ℕ
 retires {t} (frame f accepted) = idsRetired (f .settings) (worked t f)
+retires {t} (forgets named accepted) = idsDropped t named
 retires {t} (moved table holds) = []
 
 -- ---- a history that has led to a tracker

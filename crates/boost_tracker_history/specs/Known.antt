@@ -1,4 +1,4 @@
--- A history of three frames, computed by the definitions: a table of one place, and max_age 0. The box 10, 20, 32, 64 with score 0.75 starts track 1; a frame without boxes retires it; the same box then starts track 2.
+-- Two histories, computed by the definitions: a table of one place, and max_age 0. The box 10, 20, 32, 64 with score 0.75 starts track 1; a frame without boxes retires it, in the other history a drop; the same box then starts track 2.
 use mathlib.Core.Path.{_≡_, refl}
 use mathlib.Core.List.{[], _∷_}
 use lib.ListN.{replicate}
@@ -9,6 +9,7 @@ use Rattle.laws.specs.Laid.{rows}
 use Rattle.laws.specs.Sieve.{sieve}
 use Rattle.laws.specs.Scan.{scan}
 use Rattle.laws.specs.Every.{every}
+use Rattle.laws.specs.Elem.{elem}
 use Rattle.labels.specs.Label.{isLabel}
 use Rattle.records.specs.TrackRecord.{trackBytes}
 use Rattle.strack.specs.Rect.{widthOf}
@@ -26,8 +27,9 @@ use Rattle.boost_tracker_verdict.specs.Boxes.{Boxes, boxesWith}
 use Rattle.boost_tracker_verdict.specs.Sound.{rising, sound}
 use Rattle.boost_tracker_verdict.specs.Verdict.{workable, beyond, badBox, badBoxAt, ofTable, ofBoxes, ofRoom, verdict}
 use Rattle.boost_tracker_definition.specs.Update.{scores, dlo, afterDlo, duo, afterDuo, remainInds, detBboxes, detScores, detLabels, result, matched, started, stagesFrom, steps, updateBy, labelsStarted}
+use Rattle.boost_tracker_forget.specs.Forget.{twice, firstOf, verdict as forgetting, Accepts}
 use Rattle.trackbox_feed.specs.Trackbox.{Tracker}
-use Rattle.boost_tracker_history.specs.History.{fresh, Frame, answered, leaves, frame, held, History, empty, then, given, retired}
+use Rattle.boost_tracker_history.specs.History.{fresh, Frame, answered, leaves, dropping, frame, forgets, held, History, empty, then, given, retired}
 
 abbrev settings : Settings
 settings = new (f32 0x3f19_999a) (f32 0x3e99_999a) 0 3
@@ -54,10 +56,17 @@ t₂ = leaves t₁ none
 abbrev t₃ : Tracker
 t₃ = leaves t₂ box
 
+-- track 1 dropped instead
+abbrev u₂ : Tracker
+u₂ = dropping t₁ (1 ∷ [])
+
+abbrev u₃ : Tracker
+u₃ = leaves u₂ box
+
 -- what is held after each, by the frame's stages
-pub held-after : (held t₁ ≡ 1 ∷ []) × (held t₂ ≡ []) × (held t₃ ≡ 2 ∷ [])
-unfolding tracks trackAt filledUp labelsWhere zeroFilled updateBy steps stagesFrom scores afterDlo dlo dloConfidenceBoost afterDuo duo duoConfidenceBoost remainInds detScores labelsStarted result associateBy matched started tab rows sieve newTrack predict ofBits le
-held-after = (refl, refl, refl)
+pub held-after : (held t₁ ≡ 1 ∷ []) × (held t₂ ≡ []) × (held t₃ ≡ 2 ∷ []) × (held u₂ ≡ []) × (held u₃ ≡ 2 ∷ [])
+unfolding tracks trackAt filledUp labelsWhere zeroFilled updateBy steps stagesFrom scores afterDlo dlo dloConfidenceBoost afterDuo duo duoConfidenceBoost remainInds detScores labelsStarted result associateBy matched started tab rows sieve elem newTrack predict ofBits le
+held-after = (refl, refl, refl, refl, refl)
 
 pub accepted : (answered t₀ box ≡ Accepted) × (answered t₁ none ≡ Accepted) × (answered t₂ box ≡ Accepted)
 unfolding held-after verdict ofTable ofBoxes ofRoom sound rising every workable updatable badBoxAt badBox beyond scan isLabel detBboxes detLabels widthOf add sub mul div lt
@@ -69,3 +78,14 @@ three = then (then (then (empty (t₀ .table)) (frame box (accepted .0))) (frame
 pub known : (given three ≡ 1 ∷ 2 ∷ []) × (retired three ≡ 1 ∷ [])
 unfolding held-after given retired
 known = (refl, refl)
+
+pub drop-accepted : Accepts (t₁ .state) (t₁ .table) (1 ∷ []) × (answered u₂ box ≡ Accepted)
+unfolding accepted forgetting firstOf twice
+drop-accepted = (refl, refl)
+
+abbrev cleared : History u₃
+cleared = then (then (then (empty (t₀ .table)) (frame box (accepted .0))) (forgets (1 ∷ []) (drop-accepted .0))) (frame box (drop-accepted .1))
+
+pub known-drop : (given cleared ≡ 1 ∷ 2 ∷ []) × (retired cleared ≡ 1 ∷ [])
+unfolding known
+known-drop = (refl, refl)

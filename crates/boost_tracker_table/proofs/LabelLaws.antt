@@ -1,25 +1,27 @@
 -- The labels of the table: what the loops over them know and leave, and what a caller of the functions on the table needs. Assumes nothing.
 use mathlib.Core.Path.{_≡_, refl, sym, ap, _∙_}
-use mathlib.Core.Bool.{Bool, cond}
+use mathlib.Core.Bool.{Bool, true, false, cond}
 use mathlib.Core.List.{List, [], _∷_, _++_, map, append-assoc}
 use Prim.Native.Nat.{ℕ, suc, _+_, _-_, _*_, _≤_, _<_, min}
-use native.Mathlib.Nat.{le-trans, min-eq-left, mul-one, add-zero}
+use native.Mathlib.Nat.{le-trans, le-of-eq, min-eq-left, mul-one, add-zero}
 use native.Mathlib.Numerals.{add-one}
 use native.Mathlib.Omega.{arith}
-use lib.ListN.{length, length-append, length-drop, length-map, length-replicate, length-set, getD, set, take, drop, replicate, replicate-append-replicate, take-append-drop}
+use lib.ListN.{length, length-append, length-drop, length-map, length-replicate, length-set, getD, set, take, drop, replicate, replicate-append-replicate, take-append-drop, List·getD-append}
 use lib.Seq.{append-snoc, drop-at, drop-cons, drop-drop, getD-drop, length-take-le, set-at, set-split, take-at}
 use lib.Ieee.{Float}
-use Rattle.laws.specs.Tab.{indices}
+use borrow.Author.Tests.{le-ltb}
+use Rattle.laws.specs.Tab.{map-at, indices}
+use Rattle.laws.specs.Scan.{lowest, lowest-never}
 use Rattle.laws.specs.Sieve.{sieve, sieve-few}
-use Rattle.laws.specs.Picked.{sieve-places}
+use Rattle.laws.specs.Picked.{sieve-places, picked-below}
 use Rattle.laws.specs.Splice.{splice}
 use Rattle.laws.specs.Laid.{rows, laid}
 use Rattle.laws.specs.Over.{over, over-front, length-over}
 use Rattle.laws.specs.Kept.{Keeping, keep-ahead, keep-on, keep-end}
-use Rattle.labels.specs.Label.{labelAt}
-use Rattle.boost_tracker_table.specs.Table.{Track, blank, capacity, tracks, young, retained, Laying, Emptied, labelsWhere, zeroFilled, labelsRetired, labelsEmptied}
+use Rattle.labels.specs.Label.{isLabel, labelAt, unlabelledAt, unlabelled}
+use Rattle.boost_tracker_table.specs.Table.{Track, blank, capacity, placed, tracks, Laying, Emptied, labelsWhere, zeroFilled, labelsKept, labelsEmptied}
 use Rattle.boost_tracker_table.specs.Lent.{Table, placesOf, labelsIn, laidOver, holding}
-use Rattle.boost_tracker_table.proofs.Laws.{tracks-many, lay-lengths, low-room, lay-emptied, emptied-lengths, held-table}
+use Rattle.boost_tracker_table.proofs.Laws.{tracks-placed, tracks-many, lay-lengths, low-room, lay-emptied, emptied-lengths, held-table}
 
 -- ---- a list of single cells
 
@@ -71,6 +73,18 @@ module _ (p : ℕ → Bool) (l : List ℕ) (n : ℕ) where
   pub relabel-end : {i w : ℕ} {out : List ℕ} → Relabelling i w out → n ≤ i → out ≡ over (map (labelAt l) (sieve p (indices n))) l
   relabel-end k h = keep-end (λ k. labelAt l k ∷ []) 1 p (λ k. k) l n k h .1 ∙ laid-over (labelAt l) (sieve p (indices n)) l
 
+-- the labels of those held tracks that have p
+module _ (p : Track → Bool) (f : List Float) (c : List ℕ) (held : ℕ) (l : List ℕ) where
+  abbrev pub Relabelled : ℕ → ℕ → ℕ → List ℕ → Type 0
+  Relabelled n i w out = Relabelling (λ k. p (getD (tracks f c (min held (length l))) k blank)) l n i w out
+
+  pub relabel-whole : {few n w i : ℕ} {out : List ℕ} → few ≡ min held (length l) → n ≡ placed (length f) (length c) few → Relabelled n i w out → n ≤ i → out ≡ labelsKept p f c held l
+  unfolding labelsWhere
+  relabel-whole {few} {n} ef en k h =
+      let ts : List Track = tracks f c (min held (length l)) in
+      let e : n ≡ length ts = en ∙ ap (placed (length f) (length c)) ef ∙ sym (tracks-placed f c (min held (length l))) in
+      rw e at (relabel-end (λ k. p (getD ts k blank)) l n k h)
+
 -- as many as there are tracks that stay
 pub labels-many : (p : Track → Bool) (ts : List Track) (l : List ℕ) → length (labelsWhere p ts l) ≡ length (sieve p ts)
 unfolding labelsWhere
@@ -78,6 +92,15 @@ labels-many p ts l =
     let at : ℕ → Track = λ i. getD ts i blank in
     let inds : List ℕ = sieve (λ i. p (at i)) (indices (length ts)) in
     length-map inds (labelAt l) ∙ sym (length-map inds at) ∙ ap length (sieve-places p ts blank)
+
+-- what holds of all labels holds of those that stay
+pub labels-where-are : (q : ℕ → Bool) (p : Track → Bool) (ts : List Track) (labels : List ℕ) → ((i : ℕ) → i < length ts → q (labelAt labels i) ≡ true)
+    → (k : ℕ) → k < length (labelsWhere p ts labels) → q (labelAt (labelsWhere p ts labels) k) ≡ true
+unfolding labelsWhere
+labels-where-are q p ts labels all k h =
+    let inds : List ℕ = sieve (λ i. p (getD ts i blank)) (indices (length ts)) in
+    let c : k < length inds = rw (length-map inds (labelAt labels)) at h in
+    rw (map-at (labelAt labels) inds k 0 0 c) (all (getD inds k 0) (picked-below (λ i. p (getD ts i blank)) (length ts) k c))
 
 -- ---- labels beyond: those from behind xs up to i are zero
 
@@ -130,18 +153,26 @@ module _ {xs l : List ℕ} {places : ℕ} {out : List ℕ} {i : ℕ} (z : Zeroin
       let rest : end - length xs ≡ z .zeros = omega arith in
       rw (rest, ← is) (z .cells)
 
--- ---- as a frame ends: retirement, then zeros beyond
+-- where each of these is a label, none in the front is other than 1 to 3
+pub none-unlabelled : (ls : List ℕ) (places : ℕ) (l : List ℕ) (n : ℕ) → n ≡ length ls → ((i : ℕ) → i < length ls → isLabel (labelAt ls i) ≡ true) → unlabelled (zeroFilled ls places l) n ≡ false
+unfolding zeroFilled
+none-unlabelled ls places l n e good =
+    let all : List ℕ = zeroFilled ls places l in
+    let none : lowest (unlabelledAt all) n ≡ n = lowest-never (unlabelledAt all) n (λ i h. let c : i < length ls = rw e at h in rw (List·getD-append ls _ 0 i c, good i c)) in
+    le-ltb (lowest (unlabelledAt all) n) n (le-of-eq (sym none))
 
-pub labels-finished : (f : List Float) (c l : List ℕ) (held oldest places : ℕ) {l₁ l₂ : List ℕ} {n : ℕ} → held ≤ places → places ≤ capacity (length f) (length c) → places ≤ length l
-    → n ≡ length (retained oldest (tracks f c held)) → l₁ ≡ labelsRetired f c held oldest l → l₂ ≡ labelsEmptied n places l₁
-    → l₂ ≡ zeroFilled (labelsWhere (young oldest) (tracks f c held) l) places l
-labels-finished f c l held oldest places {l₁} {l₂} {n} h room low count retires empties =
+-- ---- as a frame ends: some are kept, then zeros beyond
+
+pub labels-finished : (f : List Float) (c l : List ℕ) (held : ℕ) (p : Track → Bool) (places : ℕ) {l₁ l₂ : List ℕ} {n : ℕ} → held ≤ places → places ≤ capacity (length f) (length c) → places ≤ length l
+    → n ≡ length (sieve p (tracks f c held)) → l₁ ≡ labelsKept p f c held l → l₂ ≡ labelsEmptied n places l₁
+    → l₂ ≡ zeroFilled (labelsWhere p (tracks f c held) l) places l
+labels-finished f c l held p places {l₁} {l₂} {n} h room low count keeps empties =
     let ts : List Track = tracks f c held in
-    let ks : List ℕ = labelsWhere (young oldest) ts l in
+    let ks : List ℕ = labelsWhere p ts l in
     let all : min held (length l) ≡ held = min-eq-left (le-trans h low) in
-    let is : l₁ ≡ over ks l = rw all at retires in
-    let many : length ks ≡ n = labels-many (young oldest) ts l ∙ sym count in
-    let few : length ks ≤ places = rw (labels-many (young oldest) ts l) (le-trans (sieve-few (young oldest) ts) (rw (tracks-many f c held (le-trans h room)) h)) in
+    let is : l₁ ≡ over ks l = rw all at keeps in
+    let many : length ks ≡ n = labels-many p ts l ∙ sym count in
+    let few : length ks ≤ places = rw (labels-many p ts l) (le-trans (sieve-few p ts) (rw (tracks-many f c held (le-trans h room)) h)) in
     let same : length l₁ ≡ length l = ap length is ∙ length-over ks l (le-trans few low) in
     let end : min places (length l₁) ≡ places = min-eq-left (rw same low) in
     let stay : min n places ≡ n = min-eq-left (rw (← many) few) in

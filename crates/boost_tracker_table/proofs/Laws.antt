@@ -1,5 +1,6 @@
 -- What a caller of the operations on the table needs: where the tracks of a list are read and stored, how operations follow each other, and how many tracks there are. Assumes nothing.
 use mathlib.Core.Path.{_≡_, refl, sym, ap, _∙_}
+use mathlib.Core.Bool.{Bool}
 use mathlib.Core.List.{List, [], _∷_, _++_}
 use Prim.Native.Nat.{ℕ, zero, suc, _+_, _-_, _*_, _≤_, _<_, min}
 use native.Mathlib.Nat.{le-trans, min-eq-left, mul-le-mul-right}
@@ -8,13 +9,13 @@ use lib.ListN.{length, length-append, length-drop, getD, set, take, drop, replic
 use lib.Seq.{drop-at, drop-cons, length-take-le, take-all}
 use lib.Ieee.{Float, nan}
 use Rattle.laws.specs.Tab.{tab, length-tab, tab-at, tab-of}
-use Rattle.laws.specs.Sieve.{sieve-few}
+use Rattle.laws.specs.Sieve.{sieve, sieve-few}
 use Rattle.laws.specs.Splice.{splice}
 use Rattle.laws.specs.Laid.{rows, length-rows, laid, laid-none, laid-more, laid-rest, laid-at, length-laid}
 use Rattle.laws.specs.Over.{over}
 use Rattle.laws.specs.Records.{laid-here, laid-set, laid-laid}
 use Rattle.floats.specs.Single as single
-use Rattle.boost_tracker_table.specs.Table.{placeFloats, placeCounters, Room, Track, trackOf, trackAt, floatsOf, countersOf, blank, capacity, placesIn, placed, tracks, pushed, young, retained, Laying, Retired, filledUp, Emptied, zeroFilled}
+use Rattle.boost_tracker_table.specs.Table.{placeFloats, placeCounters, Room, Track, trackOf, trackAt, floatsOf, countersOf, blank, capacity, placesIn, placed, tracks, pushed, Laying, KeptWhere, filledUp, Emptied, zeroFilled}
 use Rattle.boost_tracker_table.specs.Lent.{tableWith, laidOver, holding}
 
 -- ---- how many
@@ -163,14 +164,14 @@ module _ {f₀ : List Float} {c₀ : List ℕ} {f : List Float} {c : List ℕ} {
       let dc : drop (places * placeCounters) c ≡ drop (places * placeCounters) c₀ = ap (drop (places * placeCounters)) (w .counters) ∙ laid-rest countersOf placeCounters (λ _. refl) xs c₀ places h in
       record { floats = rw df at (v .floats); counters = rw dc at (v .counters) }
 
--- retirement and zeroing after an operation, as a frame ends
-pub lay-finished : {f₀ f f₂ f₃ : List Float} {c₀ c c₂ c₃ : List ℕ} {xs : List Track} {held oldest places n : ℕ} → Laying f₀ c₀ f c xs → length xs ≡ held → held ≤ places → places ≤ capacity (length f₀) (length c₀)
-    → Retired f c held oldest f₂ c₂ n → Emptied f₂ c₂ (placed (length f₂) (length c₂) places) (tracks f₂ c₂ (min n places)) f₃ c₃
-    → (n ≡ length (retained oldest xs)) × Emptied f₀ c₀ places (retained oldest xs) f₃ c₃
-lay-finished {f₀} {f} {f₂} {f₃} {c₀} {c} {c₂} {c₃} {xs} {held} {oldest} {places} {n} w e h room r v =
-    let ys : List Track = retained oldest xs in
+-- keeping some and zeroing after an operation, as a frame ends
+pub lay-finished : {f₀ f f₂ f₃ : List Float} {c₀ c c₂ c₃ : List ℕ} {xs : List Track} {p : Track → Bool} {held places n : ℕ} → Laying f₀ c₀ f c xs → length xs ≡ held → held ≤ places → places ≤ capacity (length f₀) (length c₀)
+    → KeptWhere p f c held f₂ c₂ n → Emptied f₂ c₂ (placed (length f₂) (length c₂) places) (tracks f₂ c₂ (min n places)) f₃ c₃
+    → (n ≡ length (sieve p xs)) × Emptied f₀ c₀ places (sieve p xs) f₃ c₃
+lay-finished {f₀} {f} {f₂} {f₃} {c₀} {c} {c₂} {c₃} {xs} {p} {held} {places} {n} w e h room r v =
+    let ys : List Track = sieve p xs in
     let fits : length xs ≤ places = rw e h in
-    let fewer : length ys ≤ places = le-trans (sieve-few (young oldest) xs) fits in
+    let fewer : length ys ≤ places = le-trans (sieve-few p xs) fits in
     let holds : tracks f c held ≡ xs = lay-tracks w e (le-trans h room) in
     let count : n ≡ length ys = rw holds at (r .count) in
     let left : Laying f c f₂ c₂ ys = rw holds at (r .laying) in

@@ -9,7 +9,6 @@ use native.Mathlib.Omega.{arith}
 use lib.ListN.{length, length-append, length-replicate, getD, set, drop, replicate, replicate-append-replicate}
 use lib.Seq.{set-out, set-getD, take-at}
 use lib.Ieee.{Float}
-use borrow.Author.Tests.{le-leb, lt-leb}
 use Rattle.laws.specs.Tab.{tab, length-tab, map-tab}
 use Rattle.laws.specs.Kept.{Keeping, keep-start, keep-ahead, keep-on, keep-end}
 use Rattle.laws.specs.Splice.{splice}
@@ -19,7 +18,7 @@ use Rattle.strack.specs.declared.rect.Xyxy.{Xyxy}
 use Rattle.strack_filter.specs.KalmanFilter.{updatable}
 use Rattle.strack.specs.Strack.{update}
 use Rattle.strack.proofs.Laws.{update-accepted, update-refused}
-use Rattle.boost_tracker_table.specs.Table.{placeFloats, placeCounters, Room, Track, trackAt, floatsOf, countersOf, blank, capacity, placed, tracks, corrected, pushed, young, Laying, Retired, filledUp, Emptied}
+use Rattle.boost_tracker_table.specs.Table.{placeFloats, placeCounters, Room, Track, trackAt, floatsOf, countersOf, blank, capacity, placed, tracks, corrected, pushed, Laying, KeptWhere, filledUp, Emptied}
 use Rattle.boost_tracker_table.specs.Private.{Kept}
 use Rattle.boost_tracker_table.proofs.Laws.{placed-room, tracks-placed, tracks-many, lay-here, lay-none, lay-lengths, same-place, lay-behind, lay-on, lay-set, pushed-room}
 
@@ -101,47 +100,50 @@ walk-all g f₀ c₀ held n i {f} {c} e w h =
     let z : i ≡ placed (length f₀) (length c₀) held = omega (arith, e, w .upto) in
     rw (map-tab g (trackAt f₀ c₀) (placed (length f₀) (length c₀) held)) (rw z at (w .laying))
 
--- ---- those that are young
+-- ---- those that stay
 
--- t is the track at place i, as it was loaded
-module _ (f : List Float) (c : List ℕ) (oldest i w : ℕ) {t : Track} (e : t ≡ trackAt f c i) where
-  pub kept-young : {f′ : List Float} {c′ : List ℕ} → t .since ≤ oldest → f′ ≡ splice f (w * placeFloats) (floatsOf t) → c′ ≡ splice c (w * placeCounters) (countersOf t) → Kept oldest i w f c f′ c′ (w + 1)
-  kept-young h ef ec =
-      let b : young oldest (trackAt f c i) ≡ true = rw (← e) (le-leb (t .since) oldest h) in
-      record { count = rw b; floats = rw (b, ← e) ef; counters = rw (b, ← e) ec }
+module _ {stays : Bool} {t : Track} {w : ℕ} {f : List Float} {c : List ℕ} where
+  pub kept-on : {f′ : List Float} {c′ : List ℕ} → stays ≡ true → f′ ≡ splice f (w * placeFloats) (floatsOf t) → c′ ≡ splice c (w * placeCounters) (countersOf t) → Kept stays t w f c f′ c′ (w + 1)
+  kept-on b ef ec = record { count = rw b; floats = rw b ef; counters = rw b ec }
 
-  pub kept-old : oldest < t .since → Kept oldest i w f c f c w
-  kept-old h =
-      let b : young oldest (trackAt f c i) ≡ false = rw (← e) (lt-leb (t .since) oldest h) in
-      record { count = rw b; floats = rw b; counters = rw b }
+  pub kept-not : stays ≡ false → Kept stays t w f c f c w
+  kept-not b = record { count = rw b; floats = rw b; counters = rw b }
 
-pub record Retiring (oldest : ℕ) (f₀ : List Float) (c₀ : List ℕ) (n : ℕ) (f : List Float) (c : List ℕ) (w i : ℕ) : Type 0 where
-  pub floats : Keeping floatsOf placeFloats (young oldest) (trackAt f₀ c₀) f₀ n i w f
-  pub counters : Keeping countersOf placeCounters (young oldest) (trackAt f₀ c₀) c₀ n i w c
+-- what a loop knows that keeps the tracks with p: those before i that have it lie in the front, w of them, and the rest is as it was
+pub record Sieving (p : Track → Bool) (f₀ : List Float) (c₀ : List ℕ) (n : ℕ) (f : List Float) (c : List ℕ) (w i : ℕ) : Type 0 where
+  pub floats : Keeping floatsOf placeFloats p (trackAt f₀ c₀) f₀ n i w f
+  pub counters : Keeping countersOf placeCounters p (trackAt f₀ c₀) c₀ n i w c
 
-module _ (oldest : ℕ) (f₀ : List Float) (c₀ : List ℕ) (n : ℕ) where
-  pub retire-start : Room (length f₀) (length c₀) n → Retiring oldest f₀ c₀ n f₀ c₀ 0 0
-  retire-start r = record {
-    floats = keep-start floatsOf placeFloats (young oldest) (trackAt f₀ c₀) f₀ n (r .in-floats);
-    counters = keep-start countersOf placeCounters (young oldest) (trackAt f₀ c₀) c₀ n (r .in-counters);
+module _ (p : Track → Bool) (f₀ : List Float) (c₀ : List ℕ) (n : ℕ) where
+  pub sieve-start : Room (length f₀) (length c₀) n → Sieving p f₀ c₀ n f₀ c₀ 0 0
+  sieve-start r = record {
+    floats = keep-start floatsOf placeFloats p (trackAt f₀ c₀) f₀ n (r .in-floats);
+    counters = keep-start countersOf placeCounters p (trackAt f₀ c₀) c₀ n (r .in-counters);
   }
 
-  -- one more is looked at
-  pub retire-on : {f f′ : List Float} {c c′ : List ℕ} {w w′ i : ℕ} → Retiring oldest f₀ c₀ n f c w i → i < n → Kept oldest i w f c f′ c′ w′ → Retiring oldest f₀ c₀ n f′ c′ w′ (i + 1)
-  retire-on {f} {f′} {c} {c′} {w} {w′} {i} k b e =
-      let same : trackAt f c i ≡ trackAt f₀ c₀ i = same-place f f₀ c c₀ i
-      (keep-ahead floatsOf placeFloats (young oldest) (trackAt f₀ c₀) f₀ n (λ _. refl) (k .floats))
-      (keep-ahead countersOf placeCounters (young oldest) (trackAt f₀ c₀) c₀ n (λ _. refl) (k .counters)) in
-      record {
-        floats = keep-on floatsOf placeFloats (young oldest) (trackAt f₀ c₀) f₀ n (λ _. refl) (k .floats) b (rw same at (e .count)) (rw same at (e .floats));
-        counters = keep-on countersOf placeCounters (young oldest) (trackAt f₀ c₀) c₀ n (λ _. refl) (k .counters) b (rw same at (e .count)) (rw same at (e .counters));
-      }
+  module _ {f : List Float} {c : List ℕ} {w i : ℕ} (k : Sieving p f₀ c₀ n f c w i) where
+    -- the track that is looked at is not stored over yet
+    pub sieve-next : trackAt f c i ≡ trackAt f₀ c₀ i
+    sieve-next =
+        same-place f f₀ c c₀ i
+        (keep-ahead floatsOf placeFloats p (trackAt f₀ c₀) f₀ n (λ _. refl) (k .floats))
+        (keep-ahead countersOf placeCounters p (trackAt f₀ c₀) c₀ n (λ _. refl) (k .counters))
 
-  pub retire-all : (held : ℕ) {f : List Float} {c : List ℕ} {w i : ℕ} → n ≡ placed (length f₀) (length c₀) held → Retiring oldest f₀ c₀ n f c w i → n ≤ i → Retired f₀ c₀ held oldest f c w
+    -- one more is looked at: t is the track, and stays the outcome of its test
+    pub sieve-on : {f′ : List Float} {c′ : List ℕ} {w′ : ℕ} {t : Track} {stays : Bool} → i < n → t ≡ trackAt f c i → stays ≡ p t → Kept stays t w f c f′ c′ w′ → Sieving p f₀ c₀ n f′ c′ w′ (i + 1)
+    sieve-on {f′} {c′} {w′} {t} {stays} b e q v =
+        let is : t ≡ trackAt f₀ c₀ i = e ∙ sieve-next in
+        let test : stays ≡ p (trackAt f₀ c₀ i) = q ∙ ap p is in
+        record {
+          floats = keep-on floatsOf placeFloats p (trackAt f₀ c₀) f₀ n (λ _. refl) (k .floats) b (rw test at (v .count)) (rw (test, is) at (v .floats));
+          counters = keep-on countersOf placeCounters p (trackAt f₀ c₀) c₀ n (λ _. refl) (k .counters) b (rw test at (v .count)) (rw (test, is) at (v .counters));
+        }
+
+  pub sieve-whole : (held : ℕ) {f : List Float} {c : List ℕ} {w i : ℕ} → n ≡ placed (length f₀) (length c₀) held → Sieving p f₀ c₀ n f c w i → n ≤ i → KeptWhere p f₀ c₀ held f c w
   unfolding tracks
-  retire-all held e k h =
-      let ef = keep-end floatsOf placeFloats (young oldest) (trackAt f₀ c₀) f₀ n (k .floats) h in
-      let ec = keep-end countersOf placeCounters (young oldest) (trackAt f₀ c₀) c₀ n (k .counters) h in
+  sieve-whole held e k h =
+      let ef = keep-end floatsOf placeFloats p (trackAt f₀ c₀) f₀ n (k .floats) h in
+      let ec = keep-end countersOf placeCounters p (trackAt f₀ c₀) c₀ n (k .counters) h in
       record { count = rw e at (ef .0); laying = record { floats = rw e at (ef .1); counters = rw e at (ec .1) } }
 
 -- ---- the places beyond: those from the one behind ts up to i are blank

@@ -1,7 +1,7 @@
 -- The lent table, document 01, "Records and limits": 24 floats and four counters (id, time since update, streak, age) a place, and 02's N2: a label, a byte, "beside the old fields".
 -- Its meaning is a list of tracks and a list of their labels. An operation on the table says which tracks it leaves in the front (Laying); Emptied also says that every place beyond is zero.
 use mathlib.Core.Path.{_≡_}
-use mathlib.Core.Bool.{Bool}
+use mathlib.Core.Bool.{Bool, not}
 use mathlib.Core.List.{List, [], _∷_, _++_, map}
 use Prim.Native.Nat.{ℕ, _+_, _-_, _*_, _/_, _≤_, min}
 use lib.Dec.{leb}
@@ -11,6 +11,7 @@ use Rattle.laws.specs.Tab.{tab, indices}
 use Rattle.laws.specs.Laid.{rows, laid}
 use Rattle.laws.specs.Over.{over}
 use Rattle.laws.specs.Sieve.{sieve}
+use Rattle.laws.specs.Elem.{elem}
 use Rattle.labels.specs.Label.{labelAt}
 use Rattle.strack.specs.declared.rect.Xyxy.{Xyxy}
 use Rattle.strack_filter.specs.declared.kalman_filter.Pair.{Pair}
@@ -95,6 +96,9 @@ pub record Room (floats counters n : ℕ) : Type 0 where
 unfoldable pub tracks : List Float → List ℕ → ℕ → List Track
 tracks f c held = tab (trackAt f c) (placed (length f) (length c) held)
 
+abbrev pub idsOf : List Track → List ℕ
+idsOf ts = map (λ (t : Track). t .id) ts
+
 -- the tracks xs lie in the front of f and c, and the rest is as in f₀ and c₀
 pub record Laying (f₀ : List Float) (c₀ : List ℕ) (f : List Float) (c : List ℕ) (xs : List Track) : Type 0 where
   pub floats : f ≡ laid floatsOf placeFloats xs f₀
@@ -117,9 +121,17 @@ young oldest t = leb (t .since) oldest
 abbrev pub retained : ℕ → List Track → List Track
 retained oldest ts = sieve (young oldest) ts
 
-pub record Retired (f₀ : List Float) (c₀ : List ℕ) (held oldest : ℕ) (f : List Float) (c : List ℕ) (left : ℕ) : Type 0 where
-  pub count : left ≡ length (retained oldest (tracks f₀ c₀ held))
-  pub laying : Laying f₀ c₀ f c (retained oldest (tracks f₀ c₀ held))
+-- document 02, N11: the list does not name the track
+abbrev pub unlisted : List ℕ → Track → Bool
+unlisted ids t = not (elem (t .id) ids)
+
+-- of the held tracks those that have p lie in the front, in their order
+pub record KeptWhere (p : Track → Bool) (f₀ : List Float) (c₀ : List ℕ) (held : ℕ) (f : List Float) (c : List ℕ) (left : ℕ) : Type 0 where
+  pub count : left ≡ length (sieve p (tracks f₀ c₀ held))
+  pub laying : Laying f₀ c₀ f c (sieve p (tracks f₀ c₀ held))
+
+abbrev pub Retired : List Float → List ℕ → ℕ → ℕ → List Float → List ℕ → ℕ → Type 0
+Retired f₀ c₀ held oldest f c left = KeptWhere (young oldest) f₀ c₀ held f c left
 
 -- the records of ts, zero up to `places` records of s cells, and l behind them
 unfoldable pub filledUp : {A : Type 0} → (Track → List A) → ℕ → A → List Track → ℕ → List A → List A
@@ -140,9 +152,12 @@ labelsWhere p ts labels = map (labelAt labels) (sieve (λ i. p (getD ts i blank)
 unfoldable pub zeroFilled : List ℕ → ℕ → List ℕ → List ℕ
 zeroFilled labels places l = labels ++ (replicate (places - length labels) 0 ++ drop places l)
 
--- the labels of those held tracks that `retained` keeps, over the front of l
+-- the labels of those held tracks that have p, over the front of l
+abbrev pub labelsKept : (Track → Bool) → List Float → List ℕ → ℕ → List ℕ → List ℕ
+labelsKept p f c held l = over (labelsWhere p (tracks f c (min held (length l))) l) l
+
 abbrev pub labelsRetired : List Float → List ℕ → ℕ → ℕ → List ℕ → List ℕ
-labelsRetired f c held oldest l = over (labelsWhere (young oldest) (tracks f c (min held (length l))) l) l
+labelsRetired f c held oldest l = labelsKept (young oldest) f c held l
 
 -- every label beyond the held tracks is zero, as far as there are labels
 abbrev pub labelsEmptied : ℕ → ℕ → List ℕ → List ℕ

@@ -1,4 +1,5 @@
 // The operations on the lent table: load, store, predict, correct, append, retire, and zero what lies beyond. Each looks only at the places that the lent slices have.
+use crate::ids::listed;
 use crate::place::PLACE_COUNTERS;
 use crate::place::PLACE_FLOATS;
 use crate::place::put_track;
@@ -15,7 +16,7 @@ ghost use Prim.Native.Nat.{_+_, _*_, _≤_, min};
 ghost use lib.ListN.{length, getD, set};
 ghost use Rattle.strack.specs.Strack.{predict as predictTrack};
 ghost use Rattle.boost_tracker_table.specs.Table as Table;
-ghost use Rattle.boost_tracker_table.specs.Table.{placeFloats, placeCounters, tracks, blankPair, pushed, Laying, Retired, Emptied};
+ghost use Rattle.boost_tracker_table.specs.Table.{placeFloats, placeCounters, tracks, blankPair, pushed, unlisted, Laying, KeptWhere, Retired, Emptied};
 ghost use Rattle.boost_tracker_table.specs.Private.{Kept};
 
 // How many whole places these lengths have.
@@ -130,13 +131,12 @@ pub fn predict_all(floats: &mut [f32], counters: &mut [u64], held: usize)
     }
 }
 
-// Takes the track at i over to place w, if it is young enough; w after that.
-fn keep_one(f: &mut [f32], c: &mut [u64], i: usize, w: usize, oldest: u64) -> usize
-    requires { ⌜ (w ≤ i) × ((i * placeFloats + placeFloats ≤ length (now f)) × (i * placeCounters + placeCounters ≤ length (now c))) ⌝ }
-    ensures { λ r. ⌜ Kept oldest i w (now (f .entry)) (now (c .entry)) (now (f .exit)) (now (c .exit)) r ⌝ }
+// Puts a track that stays at place w; w after that.
+fn keep_track(f: &mut [f32], c: &mut [u64], t: KalmanBoxTracker, w: usize, stays: bool) -> usize
+    requires { ⌜ (w * placeFloats + placeFloats ≤ length (now f)) × (w * placeCounters + placeCounters ≤ length (now c)) ⌝ }
+    ensures { λ r. ⌜ Kept stays t w (now (f .entry)) (now (c .entry)) (now (f .exit)) (now (c .exit)) r ⌝ }
 {
-    let t = track_at(f, c, i);
-    if t.since <= oldest {
+    if stays {
         put_track(f, c, w, t);
         return w + 1;
     }
@@ -151,7 +151,23 @@ pub fn retire(floats: &mut [f32], counters: &mut [u64], held: usize, oldest: u64
     let mut w = 0;
     let mut i = 0;
     while i < n {
-        w = keep_one(floats, counters, i, w, oldest);
+        let t = track_at(floats, counters, i);
+        w = keep_track(floats, counters, t, w, t.since <= oldest);
+        i += 1;
+    }
+    w
+}
+
+// Keeps the held tracks that the list does not name, in order. How many there are.
+pub fn drop_tracks(floats: &mut [f32], counters: &mut [u64], held: usize, ids: &[u64]) -> usize
+    ensures { λ r. ⌜ KeptWhere (unlisted (now (ids .entry))) (now (floats .entry)) (now (counters .entry)) held (now (floats .exit)) (now (counters .exit)) r ⌝ }
+{
+    let n = placed(floats.len(), counters.len(), held);
+    let mut w = 0;
+    let mut i = 0;
+    while i < n {
+        let t = track_at(floats, counters, i);
+        w = keep_track(floats, counters, t, w, !listed(ids, t.id));
         i += 1;
     }
     w

@@ -1,4 +1,5 @@
 // The labels of the table, a byte a place: those of the tracks that stay, and zero beyond them.
+use crate::ids::listed;
 use crate::place::track_at;
 use crate::table::placed;
 use refusals::smaller;
@@ -6,7 +7,7 @@ ghost use mathlib.Core.Path.{_≡_};
 ghost use mathlib.Core.Bool.{cond};
 ghost use Prim.Native.Nat.{_+_, _≤_, _<_};
 ghost use lib.ListN.{length, getD, set};
-ghost use Rattle.boost_tracker_table.specs.Table.{labelsRetired, labelsEmptied};
+ghost use Rattle.boost_tracker_table.specs.Table.{unlisted, labelsKept, labelsRetired, labelsEmptied};
 
 // Takes label i over to place w, if its track stays; w after that.
 fn keep_label(labels: &mut [u8], i: usize, w: usize, stays: bool) -> usize
@@ -31,6 +32,20 @@ pub fn retire_labels(floats: &[f32], counters: &[u64], labels: &mut [u8], held: 
     while i < n {
         let t = track_at(floats, counters, i);
         w = keep_label(labels, i, w, t.since <= oldest);
+        i += 1;
+    }
+}
+
+// Keeps the labels of the held tracks that the list does not name, in order. To be called before `drop_tracks`, which moves the tracks.
+pub fn drop_labels(floats: &[f32], counters: &[u64], labels: &mut [u8], held: usize, ids: &[u64])
+    ensures { λ _. ⌜ now (labels .exit) ≡ labelsKept (unlisted (now (ids .entry))) (now (floats .entry)) (now (counters .entry)) held (now (labels .entry)) ⌝ }
+{
+    let n = placed(floats.len(), counters.len(), smaller(held, labels.len()));
+    let mut w = 0;
+    let mut i = 0;
+    while i < n {
+        let t = track_at(floats, counters, i);
+        w = keep_label(labels, i, w, !listed(ids, t.id));
         i += 1;
     }
 }

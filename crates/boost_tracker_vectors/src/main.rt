@@ -1,16 +1,17 @@
-// Replays frames of standard input through update, and prints a line for each: what it answers, and digests of what it is given and of all that it
+// Replays frames and drops of standard input through update, forget_set and forget, and prints a line for each: what it answers, and digests of what it is given and of all that it
 // leaves; and a line for each box that is asked about, what why answers. oracle/boost_tracker/run writes both files, stdin by its own rules and stdout by the published tracker with the label rule.
 // A record is its kind and words. 0 lends a table: flags (1 DLO, 2 DUO, 4 rich, 8 soft, 16 varying, 32 shape v1, 64 capped confidences), det_thresh, iou_threshold,
 // the three weights, dlo_boost_coef, max_age, min_hits; count, last id and frame count; how many floats, counters and labels are lent, and how many floats and
 // counters follow, the others being 7; then a title, these, and all labels, a byte each. 1 is a frame over the table as it was left: how many floats and labels
 // its boxes have, the lengths of output and both work slices, then floats and labels. 2 asks about boxes of such a frame, and leaves the table: behind the
-// lengths the index of the first and how many they are.
+// lengths the index of the first and how many they are. 3 is a drop over the table: how many ids, then these, two words each. 4 is the same by forget, of one id.
 mod asked;
 
 use asked::ask_all;
 use boost_tracker::Settings;
 use boost_tracker::State;
 use boost_tracker::UpdateAnswer;
+use boost_tracker_forget::Forgotten;
 use vectors::digest;
 use vectors::floats::float;
 use vectors::input;
@@ -110,16 +111,48 @@ fn frame(w: &[u64; 17], now: Playing, f: &mut [f32], c: &mut [u64], l: &mut [u8]
     a.state
 }
 
+fn drops(now: Playing, f: &mut [f32], c: &mut [u64], l: &mut [u8], ids: &[u64]) -> Forgotten {
+    if now.kind == 4 && ids.len() > 0 {
+        return boost_tracker_forget::forget(now.state, f, c, l, ids[0]);
+    }
+    boost_tracker_forget::forget_set(now.state, f, c, l, ids)
+}
+
+fn of_drop(ids: &[u64], a: Forgotten) -> Line {
+    let v = a.verdict;
+    let state = a.state;
+    let given = Line::new().text(b"drop").number(ids.len() as u64).bar();
+    let said = given.number(v.number() as u64).bar();
+    let held = said.number(state.count as u64).number(state.last);
+    held.number(state.frames)
+        .bar()
+        .digest(digest::words(digest::START, ids))
+}
+
+// The state after a drop.
+fn dropped(w: &[u64; 17], now: Playing, f: &mut [f32], c: &mut [u64], l: &mut [u8]) -> State {
+    let mut numbers = [0u64; 300];
+    let ids = lent::words(&mut numbers, w[0]);
+    input::longs(300, ids);
+    let a = drops(now, f, c, l, ids);
+    let said = of_drop(ids, a);
+    said.digest(table(f, c, l)).print();
+    a.state
+}
+
 fn step(w: &[u64; 17], now: Playing, f: &mut [f32], c: &mut [u64], l: &mut [u8]) -> State {
     if now.kind == 0 {
         opened(w, f, c, l);
         return now.state;
     }
+    if now.kind == 1 {
+        return frame(w, now, f, c, l);
+    }
     if now.kind == 2 {
         ask_all(w, now.settings, now.state, f, c, l);
         return now.state;
     }
-    frame(w, now, f, c, l)
+    dropped(w, now, f, c, l)
 }
 
 // One record, over the part of the table that is lent.
@@ -129,13 +162,16 @@ fn play(w: &[u64; 17], now: Playing, f: &mut [f32], c: &mut [u64], l: &mut [u8])
     let d = at_most(l.len(), now.labels);
     let mut then = now;
     then.state = step(w, now, &mut f[..a], &mut c[..b], &mut l[..d]);
-    then.kind = input::word_or(3);
+    then.kind = input::word_or(5);
     then
 }
 
-// How many words a frame has, or a question about its boxes.
+// How many words a frame has, a question about its boxes, or a drop.
 fn lengths(kind: u32) -> usize {
-    if kind == 2 { 7 } else { 5 }
+    if kind == 1 {
+        return 5;
+    }
+    if kind == 2 { 7 } else { 1 }
 }
 
 fn replay(now: Playing, f: &mut [f32; 6143], c: &mut [u64; 1023], l: &mut [u8; 257]) -> Playing {
@@ -154,9 +190,9 @@ fn main() {
     let mut counters = [7u64; 1023];
     let mut labels = [7u8; 257];
     let mut now = started(&[0; 17]);
-    now.kind = input::word_or(3);
+    now.kind = input::word_or(5);
     let mut records = u64::MAX;
-    while records > 0 && now.kind < 3 {
+    while records > 0 && now.kind < 5 {
         now = replay(now, &mut floats, &mut counters, &mut labels);
         records -= 1;
     }

@@ -1,7 +1,7 @@
 // What turns a frame down: the verdict on its table, its settings, its boxes and its room.
 mod bad_boxes;
 mod refusal;
-mod sound;
+pub mod sound;
 mod verdict;
 mod workable;
 

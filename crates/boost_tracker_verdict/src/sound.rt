@@ -63,7 +63,7 @@ fn all_orderly(floats: &[f32], counters: &[u64], held: usize, last: u64, frames:
 }
 
 // The labels are given by their number.
-pub(crate) fn sound(state: State, floats: &[f32], counters: &[u64], labels: usize) -> bool
+pub fn sound(state: State, floats: &[f32], counters: &[u64], labels: usize) -> bool
     ensures { λ r. ⌜ r ≡ sound (placesIn (length (now (floats .entry))) (length (now (counters .entry))) labels) state (tracks (now (floats .entry)) (now (counters .entry)) (state .count)) ⌝ }
 {
     let held = state.count;

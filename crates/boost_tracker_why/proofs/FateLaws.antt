@@ -8,10 +8,10 @@ use borrow.Author.Tests.{lt-ltb, le-leb}
 use lib.ListN.{length, length-map, length-drop, take-append-drop, getD, take, drop, List·getD-map, List·getD-append}
 use lib.Seq.{length-take-le, getD-take, getD-drop, getD-append-add}
 use lib.Ieee.{Float, nan, le}
-use Rattle.laws.specs.Tab.{tab-at}
+use Rattle.laws.specs.Tab.{tab-at, map-at}
 use Rattle.laws.specs.Count.{bit}
 use Rattle.laws.specs.Grid.{grid-at}
-use Rattle.laws.specs.Elem.{elem}
+use Rattle.laws.specs.Elem.{elem, in-stands, stands-in, out-none}
 use Rattle.laws.specs.Occurs.{occurs, occurs-append}
 use Rattle.floats.specs.Single.{plusZero}
 use Rattle.labels.specs.Label.{labelAt, sameLabel, alike, whereAlike}
@@ -40,7 +40,6 @@ use Rattle.boost_tracker_definition.specs.Update.{trackerAt, xyxyOf, trks, rema
 use Rattle.boost_tracker_definition.specs.Facts.{labelsOfBoxes}
 use Rattle.boost_tracker_definition.specs.Plain.{correctedBy, startAt, startedBy}
 use Rattle.boost_tracker_definition.proofs.PlainLaws.{corrected-many, matched-is}
-use Rattle.boost_tracker_definition.proofs.LabelFacts.{image-at}
 use Rattle.boost_tracker_definition.proofs.FactLaws.{standing, frame-account, frame-facts, all-started, inds-many}
 use Rattle.boost_tracker_fate.specs.declared.kinds.Lot.{Lot}
 use Rattle.boost_tracker_fate.specs.declared.kinds.Lot.the-variants.{Under, Paired, Refused, Alone}
@@ -50,7 +49,7 @@ use Rattle.boost_tracker_fate.proofs.PlaceLaws.{place-in}
 use Rattle.boost_tracker_why.specs.Why.{retainedAs, trackIn, heldId, pairedWith, lotOf}
 use Rattle.boost_tracker_why.specs.Facts.{givenAs, matchedBoxes, rejectedBoxes, unmatchedBoxes, unpairedBoxes, iousOf, Told, MatchedTo, StartedAs, RejectedWith, LeftOut}
 use Rattle.boost_tracker_why.proofs.GivenLaws.{sieve-once, occurs-given, corners-at}
-use Rattle.boost_tracker_why.proofs.LotLaws.{elem-some, elem-none, some-elem, unmatched-once}
+use Rattle.boost_tracker_why.proofs.LotLaws.{unmatched-once}
 use Rattle.boost_tracker_why.proofs.ToldLaws.{held-read}
 
 -- a test that a pair did not pass
@@ -175,18 +174,18 @@ module _ (s : Settings) (state : State) (t : Table) (boxes : Boxes) (out work64 
 
   -- a retained box stands in a list as its place does
   elem-given : (l : List ℕ) → occurs b (map (givenAs g) l) ≡ cond (elem b (g .remainInds)) (occurs d l) 0 → elem b (g .remainInds) ≡ true → 0 < occurs d l → elem b (map (givenAs g) l) ≡ true
-  elem-given l q r h = some-elem b (map (givenAs g) l) (rw (q, r) h)
+  elem-given l q r h = stands-in b (map (givenAs g) l) (rw (q, r) h)
 
   pub in-matched : (i : ℕ) → Condition (Paired i) → elem b (matchedBoxes g) ≡ true
-  in-matched i c = elem-given (boxesOf (found .matches)) of-matched (c .0) (elem-some d (boxesOf (found .matches)) (c .1))
+  in-matched i c = elem-given (boxesOf (found .matches)) of-matched (c .0) (in-stands d (boxesOf (found .matches)) (c .1))
 
   pub in-rejected : (i place : ℕ) → Condition (Refused i place) → elem b (rejectedBoxes g) ≡ true
-  in-rejected i place c = elem-given (boxesOf (found .rejected)) of-rejected (c .0) (elem-some d (boxesOf (found .rejected)) (c .3))
+  in-rejected i place c = elem-given (boxesOf (found .rejected)) of-rejected (c .0) (in-stands d (boxesOf (found .rejected)) (c .3))
 
   pub in-unpaired : (place : ℕ) → Condition (Alone place) → elem b (unpairedBoxes g) ≡ true
   in-unpaired place c =
       let once = unmatched-once s state t boxes out work64 work32 e b low (c .0) (c .1) in
-      let none = elem-none d (boxesOf (found .rejected)) (c .3) in
+      let none = out-none d (boxesOf (found .rejected)) (c .3) in
       let parts = split in
       elem-given first of-unpaired (c .0) (omega (arith, once, none, parts))
 
@@ -207,7 +206,7 @@ module _ (s : Settings) (state : State) (t : Table) (boxes : Boxes) (out work64 
 
   label-at : (k : ℕ) → k < length (g .remainInds) → labelAt (labelsOfBoxes boxes g) k ≡ labelAt (boxes .labels) (givenAs g k)
   unfolding detLabels
-  label-at k h = image-at (labelAt (boxes .labels)) (g .remainInds) k h
+  label-at k h = map-at (labelAt (boxes .labels)) (g .remainInds) k 0 0 h
 
   module _ (r : elem b (g .remainInds) ≡ true) where
     inside : d < length (g .remainInds)
@@ -335,7 +334,7 @@ module _ (s : Settings) (state : State) (t : Table) (boxes : Boxes) (out work64 
   pub started-as : (place : ℕ) → elem b (g .remainInds) ≡ true → elem d (boxesOf (found .matches)) ≡ false → place ≡ placeIn d unmatched → StartedAs s state boxes g b (state .last + place + 1)
   started-as place r m q =
       let once = unmatched-once s state t boxes out work64 work32 e b low r m in
-      let at = place-in d unmatched (some-elem d unmatched (omega (arith, once))) in
+      let at = place-in d unmatched (stands-in d unmatched (omega (arith, once))) in
       let within : place < length unmatched = rw q (at .0) in
       let its-place : getD unmatched place 0 ≡ d = rw q (at .1) in
       let given : givenAs g (getD unmatched place 0) ≡ b = ap (givenAs g) its-place ∙ its-index r in

@@ -4,7 +4,7 @@ use mathlib.Core.Bool.{Bool, true, false, cond, not}
 use mathlib.Core.List.{List, _++_}
 use Prim.Native.Nat.{ℕ, _+_, _-_, _<_, min}
 use native.Mathlib.Omega.{arith}
-use borrow.Author.Tests.{lt-ltb, le-ltb, ltb-true, ltb-false}
+use borrow.Author.Tests.{lt-ltb, le-ltb}
 use lib.Dec.{ltb}
 use lib.ListN.{length, take-append-drop, getD, take, drop}
 use lib.Seq.{length-take-le, getD-drop}
@@ -12,7 +12,7 @@ use lib.Ieee.{Float, nan, le}
 use Rattle.laws.specs.Tab.{indices, getD-any}
 use Rattle.laws.specs.Count.{bit, countWhere}
 use Rattle.laws.specs.Sieve.{sieve}
-use Rattle.laws.specs.Elem.{elem, elem-occurs}
+use Rattle.laws.specs.Elem.{elem, in-stands, stands-in, out-none, none-out}
 use Rattle.laws.specs.Occurs.{occurs, occurs-append}
 use Rattle.laws.specs.Picked.{elem-picked}
 use Rattle.floats.specs.Single.{plusZero}
@@ -33,20 +33,6 @@ use Rattle.boost_tracker_fate.specs.Fate.{placeIn}
 use Rattle.boost_tracker_fate.specs.Private.{lotBy}
 use Rattle.boost_tracker_fate.proofs.PlaceLaws.{place-in, place-test, place-front, place-back, place-picked}
 use Rattle.boost_tracker_why.specs.Why.{retainedAs, trackIn, lotOf}
-
--- ---- how often
-
-pub elem-some : (k : ℕ) (xs : List ℕ) → elem k xs ≡ true → 0 < occurs k xs
-elem-some k xs e = ltb-true 0 (occurs k xs) (sym (elem-occurs k xs) ∙ e)
-
-pub elem-none : (k : ℕ) (xs : List ℕ) → elem k xs ≡ false → occurs k xs ≡ 0
-elem-none k xs e = let h = ltb-false 0 (occurs k xs) (sym (elem-occurs k xs) ∙ e) in omega arith
-
-none-elem : (k : ℕ) (xs : List ℕ) → occurs k xs ≡ 0 → elem k xs ≡ false
-none-elem k xs e = elem-occurs k xs ∙ ap (ltb 0) e ∙ le-ltb 0 0 (omega arith)
-
-pub some-elem : (k : ℕ) (xs : List ℕ) → 0 < occurs k xs → elem k xs ≡ true
-some-elem k xs h = elem-occurs k xs ∙ lt-ltb 0 (occurs k xs) h
 
 -- ---- an unmatched box: the rejected are the last of both lists
 
@@ -76,16 +62,16 @@ module _ (unmatched left : List ℕ) (rejected : List Pair) (d : ℕ)
     where
       by-cases : (b : Bool) → elem d (boxesOf rejected) ≡ b → cond (ltb place alone) (Alone place) (Refused (getD left ((length left - length rejected) + (place - alone)) 0) place) ≡ cond b (Refused (trackIn rejected d) place) (Alone place)
       by-cases true e =
-          let some = elem-some d (boxesOf rejected) e in
-          let none : elem d first ≡ false = none-elem d first (omega (arith, counted, some)) in
+          let some = in-stands d (boxesOf rejected) e in
+          let none : elem d first ≡ false = none-out d first (omega (arith, counted, some)) in
           let at : place ≡ length first + placeIn d (boxesOf rejected) = ap (placeIn d) whole ∙ place-back d first (boxesOf rejected) none in
           let behind : place - alone ≡ placeIn d (boxesOf rejected) = omega (arith, at, first-many) in
           let track : getD left ((length left - length rejected) + (place - alone)) 0 ≡ trackIn rejected d =
           rw behind (sym (getD-drop (length left - length rejected) left (placeIn d (boxesOf rejected)) 0) ∙ ap (λ (l : List ℕ). getD l (placeIn d (boxesOf rejected)) 0) tracks-last) in
           rw (le-ltb place alone (omega (arith, at, first-many)), track)
       by-cases false e =
-          let none = elem-none d (boxesOf rejected) e in
-          let some : elem d first ≡ true = some-elem d first (omega (arith, counted, none)) in
+          let none = out-none d (boxesOf rejected) e in
+          let some : elem d first ≡ true = stands-in d first (omega (arith, counted, none)) in
           let at : place ≡ placeIn d first = ap (placeIn d) whole ∙ place-front d first (boxesOf rejected) some in
           let inside = place-in d first some .0 in
           rw (lt-ltb place alone (omega (arith, at, inside, first-many)))
@@ -129,7 +115,7 @@ module _ (s : Settings) (state : State) (t : Table) (boxes : Boxes) (out work64 
       let inside : d < length (g .detScores) = rw (inds-many s state t boxes out work64 work32 e) (place-in b (g .remainInds) r .0) in
       let all = account .boxes-whole d in
       let split = occurs-append d (boxesOf (g .result .matches)) (g .result .unmatchedDetections) in
-      let none = elem-none d (boxesOf (g .result .matches)) m in
+      let none = out-none d (boxesOf (g .result .matches)) m in
       let one : bit (ltb d (length (g .detScores))) ≡ 1 = ap bit (lt-ltb d (length (g .detScores)) inside) in
       omega (arith, all, split, none, one)
 

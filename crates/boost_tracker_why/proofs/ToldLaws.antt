@@ -8,7 +8,7 @@ use lib.ListN.{length, length-map, length-drop, getD, drop}
 use lib.Seq.{getD-drop}
 use lib.Ieee.{nan}
 use Rattle.laws.specs.Tab.{getD-any}
-use Rattle.laws.specs.Elem.{elem}
+use Rattle.laws.specs.Elem.{elem, stands-in}
 use Rattle.floats.specs.Single.{plusZero}
 use Rattle.labels.specs.Label.{labelAt, sameLabel, alike}
 use Rattle.strack.specs.Strack.{predict, getState}
@@ -38,7 +38,7 @@ use Rattle.boost_tracker_fate.specs.Private.{fateBy, toldBy}
 use Rattle.boost_tracker_fate.proofs.PlaceLaws.{place-in}
 use Rattle.boost_tracker_why.specs.Why.{retainedAs, trackIn, lotOf, startedId, heldId, fateOf, pairedWith, partnerIn, explanation}
 use Rattle.boost_tracker_why.specs.Private.{readAs, metBy, partnerBy, startedAt}
-use Rattle.boost_tracker_why.proofs.LotLaws.{some-elem, unmatched-once}
+use Rattle.boost_tracker_why.proofs.LotLaws.{unmatched-once}
 
 -- its track is held, and its place is in the unmatched list
 abbrev pub Within : ℕ → ℕ → Lot → Type 0
@@ -92,7 +92,7 @@ module _ (s : Settings) (state : State) (t : Table) (boxes : Boxes) (out work64 
   unmatched-low : elem b (g .remainInds) ≡ true → elem d (boxesOf (found .matches)) ≡ false → placeIn d (found .unmatchedDetections) < length (found .unmatchedDetections)
   unmatched-low r m =
       let once = unmatched-once s state t boxes out work64 work32 e b low r m in
-      place-in d (found .unmatchedDetections) (some-elem d (found .unmatchedDetections) (omega (arith, once))) .0
+      place-in d (found .unmatchedDetections) (stands-in d (found .unmatchedDetections) (omega (arith, once))) .0
 
   pub lot-within : Within (state .count) (length (found .unmatchedDetections)) (lotOf g b)
   unfolding lotOf

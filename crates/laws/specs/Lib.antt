@@ -10,6 +10,7 @@
 --   pushes some elements at each index                         Joined      joined-none, joined-more
 --   leaves at the first index that passes a test               Scan        Scanning: scan-begin, scan-next, then scan-found or scan-done
 --   leaves at the first element that fails one                 Every       Chaining: chain-start, chain-on, then chain-fails or chain-ends
+--   leaves at the element of a list that decides              Deciding    what is to come decides: undecided, then decided or exhausted
 --   leaves at the first number above a bound                   Most        Low: low-start, low-on, then high or low-end
 --   carries one value                                          Folding     Folding: fold-start, fold-on, fold-end
 --   counts what passes a test, or finds the last that does     Count, Last count-none, count-more; last-none, last-more
@@ -30,6 +31,7 @@ pub mod Scan
 pub mod Fold
 pub mod Folding
 pub mod Every
+pub mod Deciding
 pub mod Count
 pub mod Last
 -- lists by their elements, and those that pass a test

@@ -8,12 +8,13 @@ use native.Mathlib.Omega.{arith}
 use native.Mathlib.Decide.{ℕ-discrete}
 use lib.Dec.{eqb, ltb}
 use lib.ListN.{length, getD}
-use borrow.Author.Tests.{lt-ltb, eq-eqb, ne-eqb}
-use Rattle.laws.specs.Tab.{tab, tab-of, map-tab, indices}
+use borrow.Author.Tests.{ltb-true, lt-ltb, eq-eqb, ne-eqb}
+use Rattle.laws.specs.Tab.{tab, length-tab, tab-at, tab-of, map-tab, indices}
 use Rattle.laws.specs.Fold.{fold}
 use Rattle.laws.specs.Sieve.{sieve, sieve-more}
 use Rattle.laws.specs.Occurs.{occurs-sieve, occurs-indices}
 use Rattle.laws.specs.Elem.{elem, elem-append, elem-occurs}
+use Rattle.laws.specs.Every.{every, every-at, every-of, every-sieve}
 
 module _ {A : Type 0} (g : A → ℕ → A) (z : A) where
   -- a fold over the picked ones is a loop that passes the others by
@@ -70,6 +71,13 @@ pub picked-ext : (p q : ℕ → Bool) (n : ℕ) → ((j : ℕ) → j < n → p j
 unfolding tab sieve
 picked-ext p q zero e = refl
 picked-ext p q (suc n) e = sieve-more p (indices n) n ∙ rw (picked-ext p q n (λ j h. e j (omega arith)), e n (le-refl (suc n))) (sym (sieve-more q (indices n) n))
+
+-- a picked index is one of those looked at
+pub picked-below : (p : ℕ → Bool) (n k : ℕ) → k < length (sieve p (indices n)) → getD (sieve p (indices n)) k 0 < n
+picked-below p n k h =
+    let low : every (λ i. ltb i n) (indices n) ≡ true =
+    every-of (λ i. ltb i n) (indices n) 0 (λ i b. let c : i < n = rw (length-tab (λ i. i) n) at b in rw (tab-at (λ i. i) n i 0 c) (lt-ltb i n c)) in
+    ltb-true _ n (every-at (λ i. ltb i n) (sieve p (indices n)) (every-sieve (λ i. ltb i n) p (indices n) low) k 0 h)
 
 -- k is among the picked ones where it passes
 pub elem-picked : (p : ℕ → Bool) (n k : ℕ) → k < n → elem k (sieve p (indices n)) ≡ p k

@@ -20,6 +20,15 @@ unfolding scan
 scan-ext p r k zero e = refl
 scan-ext p r k (suc n) e = rw (e k (omega arith), scan-ext p r (suc k) n (λ j h. e j (omega arith)))
 
+scan-never : (k n : ℕ) → scan (λ _. false) k n ≡ k + n
+unfolding scan
+scan-never k zero = omega arith
+scan-never k (suc n) = scan-never (suc k) n ∙ omega arith
+
+-- a test that fails at each index
+pub lowest-never : (p : ℕ → Bool) (n : ℕ) → ((i : ℕ) → i < n → p i ≡ false) → lowest p n ≡ n
+lowest-never p n none = scan-ext p (λ _. false) 0 n (λ j h. none j (omega (arith, h))) ∙ scan-never 0 n ∙ omega arith
+
 -- what a loop that looks for the first hit knows at k: the hit is the first from k on
 pub record Scanning (p : ℕ → Bool) (n k : ℕ) : Type 0 where
   pub upto : k ≤ n

@@ -6,7 +6,7 @@ use Prim.Native.Nat.{ℕ, zero, suc, _+_, _-_, _≤_, _<_, zero-le}
 use native.Mathlib.Nat.{not-suc-le-zero, le-refl, eq-or-lt-of-le, le-of-suc-le-suc}
 use native.Mathlib.Numerals.{add-one}
 use native.Mathlib.Omega.{arith}
-use lib.ListN.{length, length-set, getD, drop, set, replicate, length-append, length-replicate, getD-replicate, List·getD-append}
+use lib.ListN.{length, length-map, length-set, getD, drop, set, replicate, length-append, length-replicate, getD-replicate, List·getD-append, List·getD-map}
 use lib.Seq.{drop-length, drop-at, drop-cons, set-at, getD-at, getD-append-add, getD-drop, append-snoc, ext-getD}
 
 module _ {A : Type 0} where
@@ -95,6 +95,10 @@ module _ {A : Type 0} where
   getD-any [] i d e h = absurd (not-suc-le-zero h)
   getD-any (x ∷ l) zero d e h = refl
   getD-any (x ∷ l) (suc i) d e h = getD-any l i d e (le-of-suc-le-suc h)
+
+-- what f makes of an element
+pub map-at : {A B : Type 0} (f : A → B) (xs : List A) (k : ℕ) (d : A) (e : B) → k < length xs → getD (map f xs) k e ≡ f (getD xs k d)
+map-at f xs k d e h = getD-any (map f xs) k e (f d) (rw (length-map xs f) h) ∙ List·getD-map f xs k d
 
 pub map-tab : {A B : Type 0} (g : A → B) (f : ℕ → A) (n : ℕ) → map g (tab f n) ≡ tab (λ i. g (f i)) n
 unfolding tab

@@ -15,6 +15,7 @@ use borrow.Author.Tests.{leb-true}
 use Rattle.laws.specs.Tests.{and-left, and-right}
 use Rattle.laws.specs.Every.{every}
 use Rattle.laws.specs.Tab.{tab, tab-ext, tab-map}
+use Rattle.laws.specs.Picked.{picked-below}
 use Rattle.laws.specs.Laid.{rows, laid, laid-at}
 use Rattle.floats.specs.Power.{one, powers, powi}
 use Rattle.strack.specs.Strack.{getState, confidence}
@@ -39,7 +40,7 @@ use Rattle.boost_tracker_verdict.specs.Ready.{Ready}
 use Rattle.boost_tracker_verdict.proofs.ReadyLaws.{ready}
 use Rattle.boost_tracker_definition.specs.Update.{Stages, trackerAt, stagesFrom, steps, updateBy, update, stateAfter, labelsRetained}
 use Rattle.boost_tracker_definition.specs.Facts.{FrameFacts, labelsAll}
-use Rattle.boost_tracker_definition.proofs.LabelFacts.{kept-below, all-labels}
+use Rattle.boost_tracker_definition.proofs.LabelFacts.{all-labels}
 use Rattle.boost_tracker_definition.proofs.FactLaws.{frame-labels, frame-facts}
 use Rattle.trackbox_feed.specs.Private.{readAt, linesIn}
 
@@ -172,7 +173,7 @@ module _ (s : Settings) (state : State) (t : Table) (boxes : Boxes) (out work64 
   inds-many = rw output-is (emitted-many (g .frameCount) (s .«min_hits») (g .started .trackers))
 
   ind-low : (k : ℕ) → k < length inds → getD inds k 0 < length (g .started .trackers)
-  ind-low k h = kept-below (λ i. emits (g .frameCount) (s .«min_hits») (getD (g .started .trackers) i blank)) (length (g .started .trackers)) k h
+  ind-low k h = picked-below (λ i. emits (g .frameCount) (s .«min_hits») (getD (g .started .trackers) i blank)) (length (g .started .trackers)) k h
 
   read-back : (l : List ℕ) (k : ℕ) → k < length inds → readAt (laid (bytesAt false (g .frameCount) (g .started .trackers) all) trackBytes inds l) k ≡ recordIn (getD inds k 0)
   unfolding readAt

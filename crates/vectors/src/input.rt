@@ -7,6 +7,7 @@ ghost use lib.Ieee.{nan};
 ghost use Rattle.vectors.specs.Words.{wordOf, RestIs};
 use crate::floats::float_of;
 use crate::lent;
+use crate::part::whole;
 
 // The number of four bytes.
 fn word_of(a: u8, b: u8, c: u8, d: u8) -> u32
@@ -45,6 +46,17 @@ fn count_or(k: usize, given: usize, rest: u32) -> u32
     rest
 }
 
+// The next number of two words, the lower first, if number k is one of those that are given.
+fn long_or(k: usize, given: usize) -> u64
+    ensures { λ r. ⌜ (given ≤ k → r ≡ 0) ⌝ }
+{
+    if k < given {
+        let low = word_or(0);
+        return whole(low as u64, word_or(0) as u64);
+    }
+    0
+}
+
 // ---- the next words fill the front of a slice, `given` of them, and `rest` what is left of it
 
 pub fn floats(given: usize, rest: f32, out: &mut [f32])
@@ -68,6 +80,15 @@ pub fn counts(given: usize, rest: u32, out: &mut [u32])
 {
     for k in 0..out.len() {
         out[k] = count_or(k, given, rest);
+    }
+}
+
+// Numbers of two words; 0 in what is left of the slice.
+pub fn longs(given: usize, out: &mut [u64])
+    ensures { λ _. ⌜ RestIs 0 0 given (now (out .exit)) ⌝ }
+{
+    for k in 0..out.len() {
+        out[k] = long_or(k, given);
     }
 }
 

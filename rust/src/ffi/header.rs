@@ -46,6 +46,7 @@ fn layouts() -> Vec<Layout> {
             "bedside_explanation", Explanation, refusal, index, fate, id, score, score_dlo, score_duo, paired_id, iou,
             intersection, union_area
         },
+        layout! { "bedside_forgotten", ForgetAnswer, refusal, state },
     ])
 }
 
@@ -77,6 +78,7 @@ fn c_type(rust: &str) -> String {
         "State" => "bedside_state",
         "UpdateAnswer" => "bedside_update_answer",
         "Explanation" => "bedside_explanation",
+        "ForgetAnswer" => "bedside_forgotten",
         other => panic!("{other} has no name in C here"),
     };
     c.to_owned()

@@ -1,32 +1,19 @@
 -- `table_labels::retire_labels` meets its contract. The loop's invariant: of the labels before i those of young tracks lie in the front, w of them, and the rest is as it was.
 -- The measure is what is left of the tracks. Assumes nothing.
-use mathlib.Core.Path.{_≡_, sym, ap, _∙_}
-use mathlib.Core.List.{List}
-use Prim.Native.Nat.{ℕ, _-_, _≤_, min}
+use mathlib.Core.Path.{ap, _∙_}
+use Prim.Native.Nat.{_-_}
 use native.Mathlib.Omega.{arith}
-use lib.ListN.{length, getD}
-use lib.Ieee.{Float}
+use lib.ListN.{length}
 use denote.Ref.{now}
 use Rattle.laws.specs.Kept.{keep-start}
-use Rattle.boost_tracker_table.specs.Table.{Track, blank, placed, tracks, young, labelsWhere, labelsRetired}
-use Rattle.boost_tracker_table.proofs.Laws.{placed-room, tracks-placed, track-read}
-use Rattle.boost_tracker_table.proofs.LabelLaws.{Relabelling, relabel-on, relabel-end}
+use Rattle.boost_tracker_table.specs.Table.{placed, young}
+use Rattle.boost_tracker_table.proofs.Laws.{placed-room, track-read}
+use Rattle.boost_tracker_table.proofs.LabelLaws.{Relabelled, relabel-on, relabel-whole}
 use Rattle.boost_tracker_table.proofs.table_labels.retire_labels.Statement.{statement}
 use Rattle.boost_tracker_table.proofs.table_labels.retire_labels.Tie as tie
 
-abbrev Retaining : List Float → List ℕ → ℕ → ℕ → List ℕ → ℕ → ℕ → ℕ → List ℕ → Type 0
-Retaining f c held oldest l n i w out = Relabelling (λ k. young oldest (getD (tracks f c (min held (length l))) k blank)) l n i w out
-
-whole : (f : List Float) (c : List ℕ) (held oldest : ℕ) (l out : List ℕ) {few n w i : ℕ} → few ≡ min held (length l) → n ≡ placed (length f) (length c) few → Retaining f c held oldest l n i w out → n ≤ i
-    → out ≡ labelsRetired f c held oldest l
-unfolding labelsWhere
-whole f c held oldest l out {few} {n} ef en k h =
-    let ts : List Track = tracks f c (min held (length l)) in
-    let e : n ≡ length ts = en ∙ ap (placed (length f) (length c)) ef ∙ sym (tracks-placed f c (min held (length l))) in
-    rw e at (relabel-end (λ k. young oldest (getD ts k blank)) l n k h)
-
 abbrev Inv-loop : tie.InvT-loop
-Inv-loop floats counters labels₀ held oldest n w₀ i₀ labels w i = Retaining floats counters held oldest labels₀ n i w labels
+Inv-loop floats counters labels₀ held oldest n w₀ i₀ labels w i = Relabelled (young oldest) floats counters held labels₀ n i w labels
 
 abbrev μ-loop : tie.MeasureT-loop
 μ-loop floats counters labels₀ held oldest n w₀ i₀ labels w i = n - i
@@ -66,4 +53,4 @@ retire-labels-spec =
     loop-again
     (λ c. c .before .loop .inv .same)
     (λ c. let a = c .before .before .before .before .before .before .before .args in
-    whole _ _ (a .held) (a .oldest) _ _ (c .before .before .before .smaller .ensures) (c .before .before .placed .ensures) (c .before .loop .inv) (c .loop-test .left)))
+    relabel-whole (young (a .oldest)) _ _ (a .held) _ (c .before .before .before .smaller .ensures) (c .before .before .placed .ensures) (c .before .loop .inv) (c .loop-test .left)))
