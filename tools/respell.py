@@ -38,6 +38,7 @@ def bare(t):
 
 
 def snake(w):
+    w = re.sub(r"([A-Z])([A-Z][a-z])", r"\1_\2", w)
     w = re.sub(r"(?<=[a-z0-9'])([A-Z])", lambda m: "_" + m.group(1).lower(), w)
     w = re.sub(r"_([A-Z])", lambda m: "_" + m.group(1).lower(), w)
     return re.sub(r"(?<=[a-z_])([A-Z])(?=[a-z0-9_]|$)", lambda m: m.group(1).lower(), w)
@@ -89,22 +90,28 @@ def main():
     steps = set()
     for p in files((".rt",)):
         steps.update(x.replace("_", "-") for x in re.findall(r"[a-z_][a-z0-9_]*", open(p, encoding="utf-8").read()))
+    own = "|".join(sorted(os.listdir("crates")))
+    theirs = re.compile(r"(?m)^\s*(?:pub |ghost )*use (?!Rattle\.(?:%s)\.)[^\s{]*\.\{([^}]*)\}" % own)
     hits = 0
     for p in files((".antt", ".rt")):
         t = open(p, encoding="utf-8").read()
+        # a name of the library keeps its spelling in a file that imports it
+        kept = {w for m in theirs.finditer(t) for w in WORD.findall(re.sub(r" as [^,}]*", "", m.group(1)))}
+        def respelled(k, kept=kept):
+            return k.group() if k.group(1) in kept else new[k.group(1)]
         for old, with_end in BESIDE.get(p, {}).items():
             t = re.sub(r"(?<![A-Za-z0-9_'.-])" + old + r"(?![A-Za-z0-9_'.-])", with_end, t)
         if p.endswith(".rt"):
             out, at = [], 0
             for m in STRING.finditer(t):
-                out.append(rx.sub(lambda k: new[k.group(1)], t[at:m.start()]))
+                out.append(rx.sub(respelled, t[at:m.start()]))
                 out.append(m.group())
                 at = m.end()
-            out.append(rx.sub(lambda k: new[k.group(1)], t[at:]))
+            out.append(rx.sub(respelled, t[at:]))
             u = "".join(out)
         else:
             proof = os.path.basename(p) == "Proof.antt"
-            u = rx.sub(lambda k: k.group() if proof and k.group(1) in steps and t[k.start() - 1 : k.start()] == "." else new[k.group(1)], t)
+            u = rx.sub(lambda k: k.group() if proof and k.group(1) in steps and t[k.start() - 1 : k.start()] == "." else respelled(k), t)
         if u != t:
             hits += 1
             if not dry:

@@ -1,4 +1,6 @@
 // The pairing of boxes and tracks: the port of assoc.rs, over lent flat slices. A matrix is flat, row by row: a row for each detection, a cell for each track.
+#![tactic(auto)]
+
 mod association;
 mod cost_matrix;
 

@@ -16,7 +16,7 @@ use assoc_matching::{PartnerAnswer, clear, direct_columns, is_direct, lapjv_part
 use refusals::{Refusal, Verdict, larger, smaller};
 
 // The lengths of the lists, how many pairs were rejected, which are the last of both unmatched lists, and lapjv's row turns and column scans: both 0 on the direct path.
-#[derive(Drop)]
+#[derive(Clone, Copy)]
 pub struct AssignmentCounts {
     pub pairs: usize,
     pub detections: usize,

@@ -3,7 +3,7 @@ ghost use Rattle.std.specs.Prelude.{◌≡◌};
 ghost use Rattle.assoc_boxes.specs.Overlap as Overlap;
 
 // A box by its corners, and what the Rust takes from them: a row of a matrix computes it once.
-#[derive(Drop)]
+#[derive(Clone, Copy)]
 pub struct BoundingBox {
     pub x1: f32,
     pub y1: f32,
@@ -45,7 +45,7 @@ fn intersection(det: BoundingBox, trk: BoundingBox) -> f32
 
 // What two boxes have in common: the numerator of a cell, its denominator, which is given also where it does not divide, and the cell.
 #[repr(C)]
-#[derive(Drop)]
+#[derive(Clone, Copy)]
 pub struct OverlapAreas {
     pub intersection: f32,
     pub union: f32,

@@ -3,6 +3,8 @@
 // assoc.rs.
 //
 // A record is the word 1, the corners of a detection and of a track, and a title.
+#![tactic(auto)]
+
 use assoc_boxes::overlap::{bounding_box, overlap};
 use vectors::input;
 use vectors::line::Line;

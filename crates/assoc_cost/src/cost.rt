@@ -11,7 +11,7 @@ use assoc_similarity::confidence_at;
 
 // The weights, and flags for the Rust's Options: where one is false its slice is not looked at.
 #[repr(C)]
-#[derive(Drop)]
+#[derive(Clone, Copy)]
 pub struct AssociateParams {
     pub iou_threshold: f32,
     pub lambda_iou: f32,

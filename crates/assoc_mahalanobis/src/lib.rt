@@ -1,4 +1,6 @@
 // mh_dist_similarity of assoc.rs, worked in place: distances become exponentials, and these their shares of the columns' sums.
+#![tactic(auto)]
+
 ghost use Rattle.std.specs.Prelude.{◌≡◌, ◌+◌, ◌*◌, ◌≤◌, length, get_or};
 ghost use Rattle.std.specs.Float.{nan};
 ghost use Rattle.laws.specs.Tab.{tab, filled};

@@ -18,7 +18,7 @@ use assoc_sizes::{of_confidences, of_corners};
 use refusals::Verdict;
 
 // What a cell says of a detection and a track.
-#[derive(Drop)]
+#[derive(Clone, Copy)]
 pub(crate) enum Measure {
     Iou,
     SoftBiou,

@@ -1,4 +1,6 @@
 // The matrices of assoc.rs, over lent flat slices: a row for each detection, a cell for each track.
+#![tactic(auto)]
+
 mod batch;
 mod corners;
 

@@ -1,4 +1,6 @@
 // The verdict on a call that fills a matrix, from its sides and the lengths of its slices.
+#![tactic(auto)]
+
 ghost use Rattle.std.specs.Prelude.{◌≡◌};
 ghost use Rattle.refusals.specs.Refusal.{too_many};
 ghost use Rattle.assoc_sizes.specs.Sizes as Sizes;

@@ -7,6 +7,8 @@
 // for a matrix, four lists and both work slices. Of associate two words follow, how many labels boxes and tracks have, and these, a byte each. Then a title.
 // 8 holds floats, from a first place to a last: these two are its words, and the floats follow. 9 draws them (vectors::cells); of its 25 words 2
 // to 5 are the seed in two halves, the spread and the step, and 6 to 21 the patterns.
+#![tactic(auto)]
+
 use assoc::{AssignmentAnswer, AssociateParams, MatchAnswer};
 use vectors::held::hold;
 use vectors::line::Line;

@@ -1,4 +1,6 @@
 // When a call of associate of assoc.rs is turned down.
+#![tactic(auto)]
+
 mod verdict;
 
 pub use verdict::{associate_verdict, within_verdict};

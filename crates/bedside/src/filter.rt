@@ -2,7 +2,7 @@
 ghost use Rattle.std.specs.Prelude.{◌≡◌};
 ghost use Rattle.bedside_answers.specs.Filter as C;
 ghost use Rattle.strack_filter.specs.KalmanFilter.{start_pair, predict_pair, correct_pair};
-ghost use Rattle.strack.specs.Strack.{convert_bbox_to_z, convert_zto_bbox, confidence};
+ghost use Rattle.strack.specs.Strack.{convert_bbox_to_z, convert_z_to_bbox, confidence};
 
 use bedside_answers::filter::{Corrected, answer};
 use strack::rect::Xyxy;
@@ -47,7 +47,7 @@ pub extern "C" fn bedside_convert_bbox_to_z(bbox: &[f32; 4], z: &mut [f32; 4])
 
 #[unsafe(no_mangle)]
 pub extern "C" fn bedside_convert_z_to_bbox(z: &[f32; 4], bbox: &mut [f32; 4])
-    ensures { bbox.new ≡ C.corner_list (convert_zto_bbox (C.measurement z.now)) }
+    ensures { bbox.new ≡ C.corner_list (convert_z_to_bbox (C.measurement z.now)) }
 {
     let m = DetectBox {
         x: z[0],

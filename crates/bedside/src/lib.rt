@@ -1,5 +1,7 @@
 // The C interface: each function of include/bedside.h is exported under its name there, and its
 // contract cites the same definition as the function that it calls.
+#![tactic(auto)]
+
 mod assignment;
 mod filter;
 mod forget;

@@ -1,4 +1,6 @@
 // Answers in C's form: a struct of include/bedside.h for each, and what fills it.
+#![tactic(auto)]
+
 pub mod assignment;
 pub mod filter;
 pub mod forget;

@@ -12,7 +12,7 @@ use boost_tracker_steps::{Advanced, advance};
 use boost_tracker_verdict::{State, Verdict};
 
 // The state is the new one, or the one given where the frame is refused; the counts are 0 there.
-#[derive(Drop)]
+#[derive(Clone, Copy)]
 pub struct UpdateAnswer {
     pub verdict: Verdict,
     pub state: State,

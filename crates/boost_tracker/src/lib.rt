@@ -1,4 +1,6 @@
 // The tracker: `update` of boost_tracker.rs, without ECC, over lent memory.
+#![tactic(auto)]
+
 mod frame;
 
 pub use boost_tracker_settings::Settings;

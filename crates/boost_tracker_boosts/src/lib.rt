@@ -1,4 +1,6 @@
 // What both boosts of the scores share: the largest of a row, and the verdict on a call by its sizes.
+#![tactic(auto)]
+
 mod rows;
 mod sizes;
 

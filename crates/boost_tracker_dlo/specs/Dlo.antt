@@ -1,6 +1,6 @@
 -- boost_tracker.rs, dlo_confidence_boost, lines 475-572: the scores that it leaves. What is dets[i] in the Rust is here box i of det_bboxes, four corners for each box, and element i of scores.
 -- mh_dist is what get_mh_dist_matrix gives for these boxes, and time_since_update j that of tracker j.
-use Rattle.std.specs.Prelude.{ℕ, ◌-◌, Bool, cond, not, ◌&&◌, ◌||◌, List, get_or, pos, ◌==◌, from_bits, nat_lt, slice_index_or, Float}
+use Rattle.std.specs.Prelude.{ℕ, ◌-◌, Bool, cond, not, ◌&&◌, ◌||◌, List, pos, ◌==◌, from_bits, nat_lt, slice_index_or, Float}
 use Rattle.std.specs.Float.{nan, binary32}
 use Rattle.std.specs.Float.Ieee.{of_int, lt}
 use Rattle.laws.specs.Tab.{tab}
@@ -61,7 +61,7 @@ module _ (self : DloSettings) (similarity : ℕ → ℕ → Float) (time_since_u
 
   -- alpha * score + (1 - alpha) * max_s^1.5
   unfoldable pub soft : List Float → List Float
-  soft scores = tab (λ i. larger (slice_index_or scores i nan) (alpha ⊗ get_or scores i nan ⊕ (one ⊖ alpha) ⊗ powf15 (max_s i))) dets
+  soft scores = tab (λ i. larger (slice_index_or scores i nan) (alpha ⊗ slice_index_or scores i nan ⊕ (one ⊖ alpha) ⊗ powf15 (max_s i))) dets
 
   -- some j is found at which the loop breaks
   unfoldable pub should_boost : ℕ → Bool

@@ -1,6 +1,6 @@
 -- The definitions compute. A row is the bit patterns of what they give, and the ones worked out by hand from the Rust's text.
-use Rattle.std.specs.Prelude.{◌≡◌, ℕ, Bool, true, false, List, [], ◌∷◌, map, from_bits, is_nan, to_bits, refl}
-use Rattle.std.specs.Float.Ieee.{of_int, add, sub, mul, div, sum, neg, lt, le, eq, round, units, odd, size, climb, span, of_fields}
+use Rattle.std.specs.Prelude.{◌≡◌, ℕ, Bool, true, false, List, [], ◌∷◌, map, refl}
+use Rattle.std.specs.Float.Ieee.{of_bits, to_bits, of_int, is_nan, add, sub, mul, div, sum, neg, lt, le, eq, round, units, odd, size, climb, span, of_fields}
 use Rattle.laws.specs.Tab.{tab}
 use Rattle.laws.specs.Fold.{fold}
 use Rattle.laws.specs.Scan.{scan}
@@ -44,5 +44,5 @@ rows =
 
 pub known : map (λ (row : List ℕ × List ℕ). row.0) rows ≡ map (λ (row : List ℕ × List ℕ). row.1) rows
 unfolding tab fold scan larger smaller abs root powf15 exp intersection union ratio overlap soft_biou shape_v1 shape_v2 normalized shared similarity threshold max_s coefficient soft
-    should_boost varying boosted dlo_confidence_boost from_bits to_bits of_int is_nan add sub mul div sum neg lt le eq round units odd size climb span of_fields
+    should_boost varying boosted dlo_confidence_boost of_bits to_bits of_int is_nan add sub mul div sum neg lt le eq round units odd size climb span of_fields
 known = refl

@@ -21,7 +21,7 @@ use boost_tracker_boosts::largest;
 use refusals::Verdict;
 
 // What the boost reads of the tracker's settings.
-#[derive(Drop)]
+#[derive(Clone, Copy)]
 pub struct DloSettings {
     // use_rich_similarity
     pub rich: bool,

@@ -1,4 +1,6 @@
 // The DLO boost of the scores: dlo_confidence_boost of boost_tracker.rs, over lent flat slices.
+#![tactic(auto)]
+
 mod dlo;
 mod sizes;
 

@@ -1,4 +1,6 @@
 // The records that a frame of the tracker puts out.
+#![tactic(auto)]
+
 mod emission;
 mod record;
 

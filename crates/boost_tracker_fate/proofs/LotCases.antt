@@ -1,10 +1,10 @@
 -- What the lists of the pairs say of a box: the code's cases, and that its place is in the unmatched list. Assumes nothing.
 use mathlib.Core.Path.{◌≡◌}
-use mathlib.Core.Bool.{Bool, true, false, cond, not}
+use mathlib.Core.Bool.{Bool, true, false, cond}
 use mathlib.Core.List.{List}
 use Prim.Native.Nat.{ℕ, ◌+◌, ◌-◌, ◌≤◌, ◌<◌}
 use native.Mathlib.Omega.{arith}
-use borrow.Author.Tests.{lt-ltb, le-ltb, not-true, not-false}
+use borrow.Author.Tests.{lt-ltb, le-ltb}
 use lib.Dec.{ltb}
 use lib.ListN.{length, get_or}
 use Rattle.boost_tracker_fate.specs.declared.kinds.Lot.{Lot}
@@ -14,22 +14,22 @@ use Rattle.boost_tracker_fate.specs.Private.{lot_by, place_of}
 use Rattle.boost_tracker_fate.proofs.PlaceLaws.{place-most}
 
 module _ (retained : Bool) (d rejected : ℕ) (pair_boxes pair_tracks unmatched left : List ℕ) where
-  pub lot-under : not retained ≡ true → Under ≡ lot_by retained d rejected pair_boxes pair_tracks unmatched left
+  pub lot-under : retained ≡ false → Under ≡ lot_by retained d rejected pair_boxes pair_tracks unmatched left
   unfolding lot_by
-  lot-under h = rw (not-true retained h)
+  lot-under h = rw h
 
-  pub lot-paired : {pair t : ℕ} → not retained ≡ false → pair ≡ place_in d pair_boxes → pair < length pair_boxes → t ≡ get_or pair_tracks pair 0 → Paired t ≡ lot_by retained d rejected pair_boxes pair_tracks unmatched left
+  pub lot-paired : {pair t : ℕ} → retained ≡ true → pair ≡ place_in d pair_boxes → pair < length pair_boxes → t ≡ get_or pair_tracks pair 0 → Paired t ≡ lot_by retained d rejected pair_boxes pair_tracks unmatched left
   unfolding lot_by
-  lot-paired {pair} {t} h e l q = rw (not-false retained h, ← e, lt-ltb pair (length pair_boxes) l, q)
+  lot-paired {pair} {t} h e l q = rw (h, ← e, lt-ltb pair (length pair_boxes) l, q)
 
-  module _ {pair place alone : ℕ} (h : not retained ≡ false) (e : pair ≡ place_in d pair_boxes) (l : length pair_boxes ≤ pair) (ep : place ≡ place_in d unmatched) (ea : alone ≡ length unmatched - rejected) where
+  module _ {pair place alone : ℕ} (h : retained ≡ true) (e : pair ≡ place_in d pair_boxes) (l : length pair_boxes ≤ pair) (ep : place ≡ place_in d unmatched) (ea : alone ≡ length unmatched - rejected) where
     pub lot-alone : place < alone → Alone place ≡ lot_by retained d rejected pair_boxes pair_tracks unmatched left
     unfolding lot_by
-    lot-alone k = rw (not-false retained h, ← e, le-ltb pair (length pair_boxes) l, ← ep, ← ea, lt-ltb place alone k)
+    lot-alone k = rw (h, ← e, le-ltb pair (length pair_boxes) l, ← ep, ← ea, lt-ltb place alone k)
 
     pub lot-refused : {from t : ℕ} → alone ≤ place → from ≡ length left - rejected → t ≡ get_or left (from + (place - alone)) 0 → Refused t place ≡ lot_by retained d rejected pair_boxes pair_tracks unmatched left
     unfolding lot_by
-    lot-refused {from} {t} k ef et = rw (not-false retained h, ← e, le-ltb pair (length pair_boxes) l, ← ep, ← ea, le-ltb place alone k, ← ef, et)
+    lot-refused {from} {t} k ef et = rw (h, ← e, le-ltb pair (length pair_boxes) l, ← ep, ← ea, le-ltb place alone k, ← ef, et)
 
   -- its place is in the unmatched list
   pub lot-few : {k : Lot} → k ≡ lot_by retained d rejected pair_boxes pair_tracks unmatched left → length unmatched ≤ 255 → place_of k ≤ 255

@@ -3,7 +3,7 @@ ghost use Rattle.std.specs.Prelude.{◌≡◌};
 ghost use Rattle.boost_tracker_fate.specs.Fate.{fate_number, fate_id};
 
 // The id is of the track matched or started.
-#[derive(Drop)]
+#[derive(Clone, Copy)]
 pub enum Fate {
     Matched(u64),
     Started(u64),
@@ -38,7 +38,7 @@ impl Fate {
 }
 
 // The track that a box was paired with; all 0 where there is none.
-#[derive(Drop)]
+#[derive(Clone, Copy)]
 pub struct Partner {
     pub id: u64,
     // box and track have the same label
@@ -50,7 +50,7 @@ pub struct Partner {
     pub union: f32,
 }
 
-#[derive(Drop)]
+#[derive(Clone, Copy)]
 pub struct Explanation {
     pub fate: Fate,
     // as given, after the DLO boost, and after the DUO boost
@@ -61,7 +61,7 @@ pub struct Explanation {
 }
 
 // The same by indices: the track of its pair, and its place in the unmatched list.
-#[derive(Drop)]
+#[derive(Clone, Copy)]
 pub enum Lot {
     Under,
     Paired(usize),

@@ -1,4 +1,6 @@
 // What became of a box, by what the lists of the pairs say of it, and the track that it was paired with.
+#![tactic(auto)]
+
 mod kinds;
 mod met;
 mod places;

@@ -1,6 +1,6 @@
 -- Tracks corrected by their boxes, and tracks started for the others with their labels: what the loops know, and what the tests before them tell. Assumes nothing.
 use mathlib.Core.Path.{◌≡◌, refl, sym, ap, ◌∙◌}
-use mathlib.Core.Bool.{Bool, true, false, not, ◌&&◌}
+use mathlib.Core.Bool.{Bool, true, false, ◌&&◌}
 use mathlib.Core.List.{List, [], ◌∷◌, ◌++◌, append_assoc, append-nil}
 use Prim.Native.Nat.{ℕ, ◌+◌, ◌-◌, ◌/◌, ◌≤◌, ◌<◌, zero-le}
 use native.Mathlib.Nat.{le_of_eq}
@@ -8,7 +8,6 @@ use native.Mathlib.Omega.{arith}
 use lib.ListN.{length, length-append, length-map, length-set, get_or, take, drop}
 use lib.Seq.{length-take-le}
 use lib.Ieee.{Float}
-use borrow.Author.Tests.{not-true, not-false}
 use Rattle.laws.specs.Tests.{and_left, and_right}
 use Rattle.laws.specs.Tab.{tab, length-tab, tab-more}
 use Rattle.laws.specs.Fold.{fold, fold_more}
@@ -131,14 +130,14 @@ behind-held l xs held h = rw (length-append (take held l) xs, length-take-le hel
 module _ (held last : ℕ) (corners : List Float) (box_labels : List ℕ) (counts : AssignmentCounts) (pair_boxes pair_tracks unmatched : List ℕ) (f : List Float) (c l : List ℕ) {a b : Bool}
     (ea : a ≡ inside pair_boxes (length corners / 4)) (eb : b ≡ inside unmatched (length corners / 4)) where
   -- some index is of no box
-  pub not_listed : not (a && b) ≡ true → call_with (Refused OtherSize) (table_with f c l) ≡ followed_listed held last corners box_labels counts pair_boxes pair_tracks unmatched (table_with f c l)
+  pub not_listed : (a && b) ≡ false → call_with (Refused OtherSize) (table_with f c l) ≡ followed_listed held last corners box_labels counts pair_boxes pair_tracks unmatched (table_with f c l)
   unfolding followed_listed
-  not_listed h = rw (← ea, ← eb, not-true (a && b) h)
+  not_listed h = rw (← ea, ← eb, h)
 
-  pub both_inside : not (a && b) ≡ false → (inside pair_boxes (length corners / 4) ≡ true) × (inside unmatched (length corners / 4) ≡ true)
-  both_inside h = let e = not-false (a && b) h in (sym ea ∙ and_left a b e, sym eb ∙ and_right a b e)
+  pub both_inside : (a && b) ≡ true → (inside pair_boxes (length corners / 4) ≡ true) × (inside unmatched (length corners / 4) ≡ true)
+  both_inside h = (sym ea ∙ and_left a b h, sym eb ∙ and_right a b h)
 
-  pub listed : {f₁ f₂ : List Float} {c₁ c₂ l₂ : List ℕ} → not (a && b) ≡ false → held ≤ places_in (length f) (length c) (length l)
+  pub listed : {f₁ f₂ : List Float} {c₁ c₂ l₂ : List ℕ} → (a && b) ≡ true → held ≤ places_in (length f) (length c) (length l)
       → Laying f c f₁ c₁ (corrected_by corners pair_boxes pair_tracks (tracks f c held)) → Laying f₁ c₁ f₂ c₂ (tracks f₁ c₁ held ++ started_by last corners unmatched)
       → l₂ ≡ splice l held (started_labels box_labels unmatched)
       → call_with (Assigned counts) (table_with f₂ c₂ l₂) ≡ followed_listed held last corners box_labels counts pair_boxes pair_tracks unmatched (table_with f c l)
@@ -161,18 +160,18 @@ module _ (held last : ℕ) (corners : List Float) (box_labels : List ℕ) (count
     known : r ≡ fitting
     known = rw e at h
 
-    pub not_fitting : not r ≡ true → call_with (Refused TooShort) (table_with f c l) ≡ followed held last corners box_labels counts pair_boxes pair_tracks unmatched (table_with f c l)
+    pub not_fitting : r ≡ false → call_with (Refused TooShort) (table_with f c l) ≡ followed held last corners box_labels counts pair_boxes pair_tracks unmatched (table_with f c l)
     unfolding followed
-    not_fitting t = rw (sym known ∙ not-true r t)
+    not_fitting t = rw (sym known ∙ t)
 
-    pub room_of : not r ≡ false → FollowRoom held places last counts (length pair_boxes) (length pair_tracks) (length unmatched)
-    room_of t = fits-room (sym known ∙ not-false r t)
+    pub room_of : r ≡ true → FollowRoom held places last counts (length pair_boxes) (length pair_tracks) (length unmatched)
+    room_of t = fits-room (sym known ∙ t)
 
-    pub follows : {f' : List Float} {c' l' : List ℕ} {q : AssignmentAnswer} → not r ≡ false
+    pub follows : {f' : List Float} {c' l' : List ℕ} {q : AssignmentAnswer} → r ≡ true
         → call_with q (table_with f' c' l') ≡ followed_listed held last corners box_labels counts (take counts.pairs pair_boxes) (take counts.pairs pair_tracks) (take counts.detections unmatched) (table_with f c l)
         → call_with q (table_with f' c' l') ≡ followed held last corners box_labels counts pair_boxes pair_tracks unmatched (table_with f c l)
     unfolding followed
-    follows t w = rw (sym known ∙ not-false r t) w
+    follows t w = rw (sym known ∙ t) w
 
   -- for callers, where it can be done
   pub followed-is : FollowRoom held places last counts (length pair_boxes) (length pair_tracks) (length unmatched)

@@ -8,7 +8,7 @@ use lib.ListN.{length, length-append, length-map, get_or, replicate, take, drop}
 use lib.Seq.{get_or-take, length-take-le, drop_at}
 use Rattle.laws.specs.Tests.{and_left, or_none}
 use Rattle.laws.specs.Tab.{map-tab, tab_of, indices}
-use Rattle.laws.specs.Sieve.{sieve, sieve-all}
+use Rattle.laws.specs.Sieve.{sieve-all}
 use Rattle.laws.specs.Occurs.{occurs, occurs-append, occurs-sieve}
 use Rattle.laws.specs.Elem.{elem, in-stands, stands-in, out_none}
 use Rattle.laws.specs.Every.{every}
@@ -17,15 +17,14 @@ use Rattle.laws.specs.Laid.{rows, length-rows}
 use Rattle.floats.specs.Single.{plus_zero}
 use Rattle.labels.specs.Label.{label_at}
 use Rattle.boost_tracker_table.specs.Table.{place_floats, place_counters, floats_of, counters_of, Track, ids_of, blank, unlisted, labels_where, filled_up, zero_filled}
-use Rattle.boost_tracker_table.specs.Lent.{Table, places_of, tracks_in, labels_in, Call, call_with}
+use Rattle.boost_tracker_table.specs.Lent.{Table, places_of, tracks_in, Call, call_with}
 use Rattle.boost_tracker_table.proofs.LabelLaws.{labels-many}
 use Rattle.boost_tracker_verdict.specs.declared.sound.State.{State}
-use Rattle.boost_tracker_verdict.specs.Sound.{sound_table}
 use Rattle.boost_tracker_verdict.proofs.SoundLaws.{sound-placed, sound-rising, rising-once}
 use Rattle.boost_tracker_forget.specs.declared.refusal.ForgetVerdict.{ForgetVerdict}
 use Rattle.boost_tracker_forget.specs.declared.refusal.ForgetVerdict.TheVariants.{Accepted, Refused}
 use Rattle.boost_tracker_forget.specs.declared.drops.Forgotten.{Forgotten}
-use Rattle.boost_tracker_forget.specs.Forget.{twice, first_of, conditions, verdict, Accepts, remaining, state_without, without, dropped, ends, forgotten}
+use Rattle.boost_tracker_forget.specs.Forget.{twice, first_of, conditions, verdict, Accepts, remaining, without, dropped, ends, forgotten}
 use Rattle.boost_tracker_forget.specs.Laws.{Dropped, WholeOrNotAtAll, whole, not_at-all, EveryCall, NoneChangesNothing, ZerosBeyond, NoLonger, answers, singly, InAnyOrder}
 use Rattle.boost_tracker_forget.proofs.ForgetLaws.{Droppable, droppable, accepts}
 use Rattle.boost_tracker_forget.proofs.IdLaws.{each-passes, all_pass, once, not_twice, first-stands, same-many}

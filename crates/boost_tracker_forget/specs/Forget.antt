@@ -1,6 +1,7 @@
 -- Document 02, N11: "Dropping one id is wanted, and the same for a set of ids in one call. A set is dropped whole or not at all, an empty set changes nothing, otherwise places beyond the new count become zero,
 -- the remaining tracks retain order and values, last id and frame count are unchanged .. Turned away: 11, then 10 of the frame; then 101 an id given twice; then 102 an id not held."
-use Rattle.std.specs.Prelude.{◌≡◌, Bool, false, cond, not, ◌||◌, List, [], ◌∷◌, ℕ, length}
+use Rattle.std.specs.Prelude.{◌≡◌, Bool, false, cond, not, ◌||◌, ℕ, length}
+use mathlib.Core.List.{List, [], ◌∷◌}
 use Rattle.laws.specs.Elem.{elem}
 use Rattle.laws.specs.Every.{every}
 use Rattle.laws.specs.Sieve.{sieve}

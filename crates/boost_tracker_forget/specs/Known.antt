@@ -55,27 +55,27 @@ numbers = (refl, refl, refl, refl, refl, refl)
 
 -- a count above the places, and a held track with label 0, also with an empty set
 pub of_the_frame : (answer (forgotten (state 5) table []).answer.verdict ≡ 11) × (answer (forgotten (state 3) (labelled (1 ∷ 0 ∷ 3 ∷ 9 ∷ 9 ∷ [])) []).answer.verdict ≡ 10)
-unfolding numbers
+unfolding forgotten verdict first_of twice tracks track_at tab sieve rows scan every elem is_label rising sound
 of_the_frame = (refl, refl)
 
 -- tracks 1 and 4 stay in this order, and the two places beyond are zero; the cells past the places are as they were
 pub two-left : ((left (3 ∷ [])).answer.state ≡ state 2)
     × ((left (3 ∷ [])).lent ≡ table_with (one ++ (three ++ (zeros ++ (zeros ++ (nan ∷ []))))) (1 ∷ 0 ∷ 1 ∷ 1 ∷ 4 ∷ 1 ∷ 0 ∷ 1 ∷ 0 ∷ 0 ∷ 0 ∷ 0 ∷ 0 ∷ 0 ∷ 0 ∷ 0 ∷ 9 ∷ []) (1 ∷ 3 ∷ 0 ∷ 0 ∷ 9 ∷ []))
-unfolding numbers filled_up labels_where zero_filled
+unfolding forgotten verdict first_of twice tracks track_at tab sieve rows scan every elem is_label rising sound filled_up labels_where zero_filled
 two-left = (refl, refl)
 
 -- track 3 takes the first place
 pub one_left : ((left (4 ∷ 1 ∷ [])).answer.state ≡ state 1)
     × ((left (4 ∷ 1 ∷ [])).lent ≡ table_with (two ++ (zeros ++ (zeros ++ (zeros ++ (nan ∷ []))))) (3 ∷ 0 ∷ 0 ∷ 0 ∷ 0 ∷ 0 ∷ 0 ∷ 0 ∷ 0 ∷ 0 ∷ 0 ∷ 0 ∷ 0 ∷ 0 ∷ 0 ∷ 0 ∷ 9 ∷ []) (2 ∷ 0 ∷ 0 ∷ 0 ∷ 9 ∷ []))
-unfolding two-left
+unfolding forgotten verdict first_of twice tracks track_at tab sieve rows scan every elem is_label rising sound filled_up labels_where zero_filled
 one_left = (refl, refl)
 
 pub none_left : ((left (3 ∷ 1 ∷ 4 ∷ [])).answer.state ≡ state 0)
     × ((left (3 ∷ 1 ∷ 4 ∷ [])).lent ≡ table_with (zeros ++ (zeros ++ (zeros ++ (zeros ++ (nan ∷ []))))) (replicate 16 0 ++ (9 ∷ [])) (0 ∷ 0 ∷ 0 ∷ 0 ∷ 9 ∷ []))
-unfolding two-left
+unfolding forgotten verdict first_of twice tracks track_at tab sieve rows scan every elem is_label rising sound filled_up labels_where zero_filled
 none_left = (refl, refl)
 
 -- an empty set leaves the place beyond as it is, and so does one that is turned away
 pub all_left : ((left []).answer.state ≡ state 3) × ((left []).lent ≡ table) × ((left (3 ∷ 2 ∷ [])).lent ≡ table)
-unfolding numbers
+unfolding forgotten verdict first_of twice tracks track_at tab sieve rows scan every elem is_label rising sound
 all_left = (refl, refl, refl)

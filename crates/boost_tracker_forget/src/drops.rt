@@ -13,7 +13,7 @@ use boost_tracker_verdict::sound::sound;
 use labels::first_unlabelled;
 
 // The state is the new one, or the one given where the drop is refused.
-#[derive(Drop)]
+#[derive(Clone, Copy)]
 pub struct Forgotten {
     pub verdict: ForgetVerdict,
     pub state: State,

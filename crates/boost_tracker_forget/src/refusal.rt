@@ -2,7 +2,7 @@
 ghost use Rattle.std.specs.Prelude.{◌≡◌};
 ghost use Rattle.boost_tracker_forget.specs.Forget as Spec;
 
-#[derive(Drop)]
+#[derive(Clone, Copy)]
 pub enum ForgetRefusal {
     // 11
     TableNotSound,
@@ -14,7 +14,7 @@ pub enum ForgetRefusal {
     IdNotHeld,
 }
 
-#[derive(Drop)]
+#[derive(Clone, Copy)]
 pub enum ForgetVerdict {
     Accepted,
     Refused(ForgetRefusal),

@@ -36,7 +36,7 @@ use Rattle.boost_tracker_verdict.specs.Verdict.{boxes_in}
 use Rattle.boost_tracker_verdict.specs.Ready.{Ready}
 use Rattle.boost_tracker_mh_dist.specs.MhDist.{get_mh_dist_matrix}
 use Rattle.boost_tracker_seen.specs.Seen.{remain_before, seen_with}
-use Rattle.boost_tracker_definition.specs.Update.{corners_of, xyxy_of, tracker_at, bboxes, scores, trks, confs, after_dlo, after_duo, remain_inds, det_bboxes, det_scores, det_labels, mh_dist, stages_from, steps, update_by, update}
+use Rattle.boost_tracker_definition.specs.Update.{corners_of, xyxy_of, tracker_at, bboxes, scores, trks, confs, after_dlo, after_duo, remain_inds, det_bboxes, det_scores, det_labels, mh_dist, stages_from, steps, update_by}
 use Rattle.boost_tracker_pairs.specs.Pairs.{Inputs, inputs_with, roomy, roomy_for, seen_in, unprepared, PrepareCall, prepare_verdict}
 use Rattle.boost_tracker_pairs.specs.declared.boost.Boosted.{Boosted}
 use Rattle.boost_tracker_seen.specs.declared.seen.Seen.{Seen}

@@ -1,3 +1,5 @@
+#![tactic(auto)]
+
 // The settings of a tracker.
 mod settings;
 

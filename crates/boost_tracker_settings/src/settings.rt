@@ -3,7 +3,7 @@ ghost use Rattle.std.specs.Prelude.{◌≡◌};
 ghost use Rattle.boost_tracker_settings.specs.Settings.{new as new_settings, with_lambdas, with_boost, with_boost_plus, with_boost_plus_plus, with_shape_similarity_v1, with_cap_confidence};
 
 #[repr(C)]
-#[derive(Drop)]
+#[derive(Clone, Copy)]
 pub struct Settings {
     pub det_thresh: f32,
     pub iou_threshold: f32,

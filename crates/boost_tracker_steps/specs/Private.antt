@@ -5,7 +5,7 @@ use Rattle.strack.specs.Strack.{predict}
 use Rattle.assoc_assignment.specs.declared.assignment.AssignmentAnswer.{AssignmentAnswer}
 use Rattle.assoc_assignment.specs.declared.assignment.AssignmentAnswer.TheVariants.{Assigned, Refused as Unassigned}
 use Rattle.boost_tracker_settings.specs.declared.settings.Settings.{Settings}
-use Rattle.boost_tracker_table.specs.Table.{place_floats, place_counters, Track, floats_of, counters_of}
+use Rattle.boost_tracker_table.specs.Table.{place_floats, place_counters, floats_of, counters_of}
 use Rattle.boost_tracker_table.specs.Lent.{Table, table_with, tracks_in, Call, call_with}
 use Rattle.boost_tracker_verdict.specs.declared.refusal.Refusal.TheVariants.{WorkShort}
 use Rattle.boost_tracker_verdict.specs.declared.refusal.Verdict.TheVariants.{Accepted, Refused}

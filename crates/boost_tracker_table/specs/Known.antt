@@ -1,5 +1,5 @@
 -- Examples that the definitions compute: capacities and labels.
-use Rattle.std.specs.Prelude.{◌≡◌, refl, List, [], ◌∷◌, ℕ}
+use Rattle.std.specs.Prelude.{◌≡◌, refl, [], ◌∷◌, ℕ}
 use Rattle.laws.specs.Tab.{tab}
 use Rattle.laws.specs.Sieve.{sieve}
 use Rattle.boost_tracker_table.specs.Table.{Track, blank, capacity, places_in, young, labels_where, zero_filled, labels_emptied}

@@ -1,4 +1,6 @@
 // The lent table of tracks: a place for each, its label beside it, and the operations on them.
+#![tactic(auto)]
+
 mod ids;
 mod place;
 mod table;

@@ -5,6 +5,8 @@
 // counters follow, the others being 7; then a title, these, and all labels, a byte each. 1 is a frame over the table as it was left: how many floats and labels
 // its boxes have, the lengths of output and both work slices, then floats and labels. 2 asks about boxes of such a frame, and leaves the table: behind the
 // lengths the index of the first and how many they are. 3 is a drop over the table: how many ids, then these, two words each. 4 is the same by forget, of one id.
+#![tactic(auto)]
+
 mod asked;
 
 use asked::ask_all;
@@ -17,7 +19,7 @@ use vectors_digest::digest;
 use vectors_digest::floats::float;
 
 // What goes on from record to record beside the table: the next one's kind, and how many floats, counters and labels are lent.
-#[derive(Drop)]
+#[derive(Clone, Copy)]
 struct Playing {
     kind: u32,
     settings: Settings,

@@ -1,4 +1,6 @@
 // What turns a frame down: the verdict on its table, its settings, its boxes and its room.
+#![tactic(auto)]
+
 mod bad_boxes;
 mod refusal;
 pub mod sound;

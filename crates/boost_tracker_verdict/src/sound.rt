@@ -10,7 +10,7 @@ use strack::strack::KalmanBoxTracker;
 
 // What stands beside the table: the held tracks, the last id given, the frames worked.
 #[repr(C)]
-#[derive(Drop)]
+#[derive(Clone, Copy)]
 pub struct State {
     pub count: usize,
     // the Rust's track_id_count

@@ -1,4 +1,6 @@
 // Why a box has no track: the fate of one box of a frame, by the frame's own steps 1 to 5, and with the table as it was.
+#![tactic(auto)]
+
 mod met;
 mod tool;
 

@@ -21,7 +21,7 @@ use boost_tracker_settings::Settings;
 use boost_tracker_verdict::{Refusal, State, Verdict};
 use records::BOX_VALUES;
 
-#[derive(Drop)]
+#[derive(Clone, Copy)]
 pub enum WhyAnswer {
     Explained(Explanation),
     // why the frame would be turned down

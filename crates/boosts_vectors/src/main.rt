@@ -5,6 +5,8 @@
 // dlo_boost_coef, frame count; boxes, tracks, retained boxes; where seven lists of floats end: corners of the boxes, of the retained ones, their scores,
 // corners of the tracks, confidences, states, reciprocals of the variances; the cells of the distances and of the retained boxes' distances. Then the times
 // since update, the seven lists, the labels of the boxes, of the tracks and of the retained boxes, a byte each, a title, and the scores of the boxes.
+#![tactic(auto)]
+
 use vectors::line::Line;
 use vectors::{input, lent, part};
 use vectors_digest::digest;

@@ -1,4 +1,6 @@
 // Which boxes a frame can take: document 01's 16, of one box.
+#![tactic(auto)]
+
 ghost use Rattle.std.specs.Prelude.{◌≡◌};
 ghost use Rattle.std.specs.Float.Ieee.Scale.{finite as ieee_finite};
 ghost use Rattle.box_verdict.specs.Box.{beyond, bad_box};

@@ -1,6 +1,6 @@
 -- The test `0 < s` and `s - s == 0` is the library's `positive`: finite and above zero. Assumes nothing.
 use Rattle.std.proofs.Common.{◌≡◌, ℕ, zero, suc, ◌-◌, ◌*◌, ◌<◌, Bool, true, false, ◌&&◌, ltb, ℤ, pos, sym, refl, ap, ◌∙◌, mul-pos, zero-mul, mul-one, arith, le-ltb, lt-ltb}
-use mathlib.Core.Bool.{and_true}
+use mathlib.Core.Bool.{and-true}
 use lib.Ieee.{Float, nan, inf, fin, binary32, of_bits, sub, sum, round, lt, eq, up, down}
 use lib.Ieee.Fits.{up_pos, down_pos}
 use lib.Ieee.Positive.{positive}
@@ -53,4 +53,4 @@ pub positive_test : (s : Float) → lt (of_bits binary32 0) s && eq (sub binary3
 positive_test nan = nan_fails
 positive_test (inf b) = inf_fails b
 positive_test (fin true m e) = signed_fails m e
-positive_test (fin false m e) = rw (above_zero m e, no-rest m e) (and_true (ltb 0 m))
+positive_test (fin false m e) = rw (above_zero m e, no-rest m e) (and-true (ltb 0 m))

@@ -1,3 +1,5 @@
+#![tactic(auto)]
+
 // The float functions of document 01 but those that pick (floats_pick) and the powers (floats_power), each by a definition in specs/ that holds for every f32.
 mod exponential;
 mod packing;

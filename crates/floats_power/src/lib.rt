@@ -1,3 +1,5 @@
+#![tactic(auto)]
+
 // Powers: by a whole number, and by 1.5.
 ghost use Rattle.std.specs.Prelude.{◌≡◌};
 ghost use Rattle.floats.specs.Power as Power;

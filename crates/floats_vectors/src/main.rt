@@ -6,6 +6,8 @@
 // is the exponent of powi; a function of one operand does not look at the second. The result is the
 // bit pattern of an f32, and 7fc00000 for every NaN. A row of any other form gets the result
 // `bad line`. At the end of the input, or where it stops inside a row, the program ends.
+#![tactic(auto)]
+
 ghost use Rattle.std.specs.Prelude.{◌<◌};
 
 use check::same;

@@ -1,1 +1,2 @@
 // Document 01's starred examples, as one table: specs/ has it, and no code is here.
+#![tactic(auto)]

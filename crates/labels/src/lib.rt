@@ -1,4 +1,6 @@
 // The labels of boxes and tracks, a byte each: 1 sleeper, 2 partner, 3 staff. Whether one is a label, whether two are alike, and the cells of a matrix where they are not.
+#![tactic(auto)]
+
 ghost use Rattle.std.specs.Prelude.{◌≡◌, cond, length};
 ghost use Rattle.laws.specs.Scan.{lowest};
 ghost use Rattle.laws.specs.Every.{every};

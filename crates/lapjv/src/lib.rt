@@ -1,18 +1,20 @@
 // Jonker-Volgenant linear assignment, from lapjv.rs: what a call answers. Its two halves are crates/lapjv_reduction and crates/lapjv_augmentation.
+#![tactic(auto)]
+
 ghost use Rattle.std.specs.Prelude.{◌≡◌};
 ghost use Rattle.lapjv.specs.Answers.{verdict_of, Answered};
 
 use lapjv_augmentation::assign;
 
 // The row turns and column scans of a call.
-#[derive(Drop)]
+#[derive(Clone, Copy)]
 pub struct Counts {
     pub turns: usize,
     pub scans: usize,
 }
 
 // Why a call is refused. The numbers 21, 22 and 23 are in specs/Answers.antt.
-#[derive(Drop)]
+#[derive(Clone, Copy)]
 pub enum Refusal {
     NoSide,
     SideAbove255,
@@ -20,14 +22,14 @@ pub enum Refusal {
 }
 
 // The answer of a call.
-#[derive(Drop)]
+#[derive(Clone, Copy)]
 pub enum Answer {
     Assigned(Counts),
     Refused(Refusal),
 }
 
 // Whether a call is accepted.
-#[derive(Drop)]
+#[derive(Clone, Copy)]
 pub enum Verdict {
     Fits,
     Unfit(Refusal),

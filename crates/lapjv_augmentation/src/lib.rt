@@ -1,5 +1,7 @@
 // The second half of `lapjv`, lines 348 to 350 of lapjv.rs, over the first: each free row gets a column along a shortest path. A module for each of its
 // functions.
+#![tactic(auto)]
+
 ghost use Rattle.std.specs.Prelude.{◌≡◌, length, replicate};
 ghost use Rattle.lapjv_definition.specs.Halves.{assigning};
 ghost use Rattle.lapjv_definition.specs.Invariant.{Square};

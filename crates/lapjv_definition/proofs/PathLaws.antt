@@ -6,7 +6,7 @@ use native.Mathlib.Omega.{arith}
 use lib.ListN.{length, get_or, set, length-set}
 use lib.Ieee.{Float, nan, binary64, add}
 use Rattle.laws.specs.Fuel.{fuel_suc, fuel_zero}
-use Rattle.lapjv_definition.specs.Cost.{at, ◌⊖◌}
+use Rattle.lapjv_definition.specs.Cost.{◌⊖◌}
 use Rattle.lapjv_definition.specs.Path.{last_step, last_free, raise_from}
 
 -- ---- the last free column

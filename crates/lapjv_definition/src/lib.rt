@@ -1,4 +1,5 @@
 // The types that the definition of the assignment and its code share. The definition is in specs/, its theorems in proofs/: there is no code here.
+#![tactic(auto)]
 
 // An entry of x or y: taken by a row (in x, by a column), or free.
 #[derive(Drop)]

@@ -1,5 +1,7 @@
 // The first half of `lapjv`, lines 340 to 347 of lapjv.rs: column reduction, reduction transfer and two rounds of augmenting row reduction. A module for
 // each of its functions, and two for what they share.
+#![tactic(auto)]
+
 ghost use Rattle.std.specs.Prelude.{◌≡◌, true, length, replicate};
 ghost use Rattle.lapjv_definition.specs.Halves.{sized, rounds_over, reduction};
 ghost use Rattle.lapjv_definition.specs.Invariant.{Square};

@@ -1,6 +1,8 @@
 // Replays fixed matrices through lapjv and prints a line for each: kind, side, checksum of the costs;
 // refusal, turns, scans; x; y. The file stdout has the lines that the published lapjv.rs gives on the
 // same matrices (oracle/lapjv/run).
+#![tactic(auto)]
+
 ghost use Rattle.std.specs.Prelude.{◌<◌, ◌≤◌};
 
 mod matrices;

@@ -18,6 +18,7 @@ most-least f (suc n) k h =
 
 pub most-at : (f : ℕ → ℕ) (n i : ℕ) → i < n → f i ≤ most f n
 unfolding most
+most-at f zero i h = elim h [ ]
 most-at f (suc n) i h =
     ⊎_elim
     (λ (e : i ≡ n). rw e (omega arith))

@@ -2,7 +2,7 @@
 use Rattle.std.specs.Prelude.{◌≡◌, Bool, ◌&&◌, ◌||◌, eqb, ltb, length, get_or}
 use Rattle.std.proofs.Math.Path.{refl}
 use Rattle.std.proofs.Common.{sym, ap, ◌∙◌, le_refl, arith, ltb-true, lt-ltb, eq-eqb, ne_eqb}
-use Rattle.std.proofs.Math.Bool.{true, false, cond, or_true}
+use Rattle.std.proofs.Math.Bool.{true, false, cond, or-true}
 use mathlib.Core.List.{List, [], ◌∷◌, ◌++◌, map, map-append, foldl, foldl-append}
 use Prim.Native.Nat.{ℕ, zero, suc, ◌<◌}
 use Rattle.std.proofs.Math.Decide.{ℕ_discrete}
@@ -126,6 +126,6 @@ elem_either f p q k (x ∷ xs) = by_cases (p x) (q x) (eqb k (f x)) refl (elem_e
     by_cases true true false m h = rw m h
     by_cases true false true m h = rw m
     by_cases true false false m h = rw m h
-    by_cases false true true m h = rw m (or_true (elem k us))
+    by_cases false true true m h = rw m (or-true (elem k us))
     by_cases false true false m h = rw m h
     by_cases false false e m h = h

@@ -33,6 +33,7 @@ module _ {A : Type 0} where
 
   pub tab-at : (f : ℕ → A) (n i : ℕ) (d : A) → i < n → get_or (tab f n) i d ≡ f i
   unfolding tab
+  tab-at f zero i d h = elim h [ ]
   tab-at f (suc n) i d h =
       ⊎_elim
       (λ (e : i ≡ n). get_or_at (tab f n) (f n) [] d i (length-tab f n ∙ sym e) ∙ ap f (sym e))

@@ -8,11 +8,10 @@ use lib.Dec.{ltb}
 use lib.ListN.{length, take, drop, get_or, length-drop}
 use lib.Seq.{take_all}
 use borrow.Author.Tests.{lt-ltb, le-ltb, le-leb, lt-leb, eq-eqb, ne_eqb}
-use Rattle.bytes.specs.Bytes.{slice, index_of}
+use Rattle.mot_number.specs.Index.{index_of}
 use Rattle.mot_number.specs.declared.number.FrameNumber.{FrameNumber}
 use Rattle.mot_number.specs.declared.number.FrameNumber.TheVariants as frame
 use Rattle.mot_number.specs.Number.{whole_of, behind_of, has_point, is_frame, frame_of, frame_number}
-use Rattle.mot_number.proofs.Returns.{point_is}
 use Rattle.mot_fields.specs.Fields.{is_minus_one}
 use Rattle.mot_fields.proofs.Returns.{no-frame_of, frame_of_lem}
 use Rattle.mot_fault.specs.declared.kinds.Fault.{Fault}
@@ -57,10 +56,7 @@ module _ (none many : Fault) (skip : ℕ) (t : List ℕ) where
 
 -- ---- behind the sign
 
-module _ (skip : ℕ) (u : List ℕ) (point : ℕ) (is : point ≡ 0 + index_of 46 (slice 0 (length u) u)) where
-  point_at : point ≡ index_of 46 u
-  point_at = point_is u false point is
-
+module _ (skip : ℕ) (u : List ℕ) (point : ℕ) (point_at : point ≡ index_of 46 u) where
   module _ (r : Found) (e : r ≡ digits_fault NoDigits ManyDigits skip (take point u)) where
     before : r ≡ digits_fault NoDigits ManyDigits skip (whole_of u)
     before = e ∙ ap (λ (k : ℕ). digits_fault NoDigits ManyDigits skip (take k u)) point_at

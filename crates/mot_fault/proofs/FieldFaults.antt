@@ -7,7 +7,7 @@ use native.Mathlib.Omega.{arith}
 use lib.Dec.{eqb, leb, ltb}
 use lib.ListN.{length, get_or}
 use borrow.Author.Tests.{ltb-true, ltb-false, lt-leb, le-leb, ne_eqb, eq-eqb, not-true, not-false}
-use Rattle.bytes.specs.Bytes.{index_of}
+use Rattle.mot_number.specs.Index.{index_of}
 use Rattle.laws.specs.Tests.{true_not_false}
 use Rattle.laws.specs.Scan.{scan}
 use Rattle.laws.specs.Every.{every, every-at, every_of, lowest-none}

@@ -7,7 +7,7 @@ use native.Mathlib.Omega.{arith}
 use lib.ListN.{length, take, drop, length-drop}
 use lib.Seq.{take_all, drop-drop}
 use borrow.Author.Tests.{lt-ltb, le-ltb}
-use Rattle.bytes.specs.Bytes.{index_of}
+use Rattle.mot_number.specs.Index.{index_of}
 use Rattle.mot_fields.specs.Fields.{fields}
 use Rattle.mot_fields.specs.Reading.{first}
 use Rattle.mot_fields.proofs.Cutting.{cut, followed, alone}

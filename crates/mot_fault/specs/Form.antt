@@ -1,7 +1,7 @@
 -- What is wrong with the form of a field: document 02, N1, "A number has an optional minus, one to six digits, and optionally a point with one to six digits; the frame is one to six digits alone",
 -- "with id and the last three always `-1`".
 use Rattle.std.specs.Prelude.{Bool, not, cond, List, ℕ, ◌+◌, eqb, leb, ltb, length, get_or}
-use Rattle.bytes.specs.Bytes.{index_of}
+use Rattle.mot_number.specs.Index.{index_of}
 use Rattle.laws.specs.Scan.{lowest}
 use Rattle.mot_number.specs.Number.{is_digit, whole_of, behind_of, has_point, is_negative, unsigned_part, is_frame}
 use Rattle.mot_fields.specs.Fields.{is_minus_one}

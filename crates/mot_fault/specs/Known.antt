@@ -1,7 +1,7 @@
 -- Examples that the definitions compute: lines as real files have them that are turned away, the first of a text but for the last three.
 use Rattle.std.specs.Prelude.{◌≡◌, refl, List, [], ◌∷◌, map, ℕ}
 use Rattle.std.specs.Float.Ieee.{of_bits, round, lt, neg}
-use Rattle.bytes.specs.Bytes.{index_of}
+use Rattle.mot_number.specs.Index.{index_of, index_after}
 use Rattle.laws.specs.Scan.{scan}
 use Rattle.laws.specs.Every.{every}
 use Rattle.box_verdict.specs.Box.{beyond}
@@ -28,7 +28,7 @@ known-lines : map (λ (l : List ℕ). report_of l 0) (
     ∷ (49 ∷ 44 ∷ 45 ∷ 49 ∷ 44 ∷ 49 ∷ 48 ∷ 44 ∷ 50 ∷ 48 ∷ 44 ∷ 51 ∷ 50 ∷ 44 ∷ 54 ∷ 52 ∷ 44 ∷ 48 ∷ 46 ∷ 55 ∷ 53 ∷ 10 ∷ [])
     ∷ (49 ∷ 44 ∷ 45 ∷ 49 ∷ 44 ∷ 49 ∷ 48 ∷ 44 ∷ 50 ∷ 48 ∷ 44 ∷ 51 ∷ 50 ∷ 44 ∷ 54 ∷ 52 ∷ 44 ∷ 48 ∷ 46 ∷ 55 ∷ 53 ∷ 44 ∷ 45 ∷ 49 ∷ 44 ∷ 45 ∷ 49 ∷ 44 ∷ 45 ∷ 49 ∷ 44 ∷ 45 ∷ 49 ∷ 44 ∷ 45 ∷ 49 ∷ 44 ∷ 45 ∷ 49 ∷ 10 ∷ []) ∷ [])
     ≡ Fine ∷ Field NoLineFeed 0 0 ∷ Field EmptyLine 0 0 ∷ Field CarriageReturn 0 0 ∷ Field FieldCount 7 0 ∷ Field FieldCount 11 0 ∷ []
-unfolding report_of field_report first_fault field_fault digits_fault unsigned_fault number_fault minus_one_fault id_fault scan value_fault frame_value place_value side_value score_value line_of is_line of_forms fields is_unsigned one_to_six every index_of with_digits beyond of_bits round lt neg
+unfolding report_of field_report first_fault field_fault digits_fault unsigned_fault number_fault minus_one_fault id_fault scan value_fault frame_value place_value side_value score_value line_of is_line of_forms fields is_unsigned one_to_six every index_of index_after with_digits beyond of_bits round lt neg
 known-lines = refl
 
 -- of a field: `1.0` as frame; `7` and `-2` as id; left `10.1234567`, `-1234567`, `-` and `-.5`; top `2e1`, nothing and `20.`; confidence `.75`
@@ -45,7 +45,7 @@ known_forms : map (λ (l : List ℕ). report_of l 0) (
     ∷ (49 ∷ 44 ∷ 45 ∷ 49 ∷ 44 ∷ 49 ∷ 48 ∷ 44 ∷ 50 ∷ 48 ∷ 46 ∷ 44 ∷ 51 ∷ 50 ∷ 44 ∷ 54 ∷ 52 ∷ 44 ∷ 48 ∷ 46 ∷ 55 ∷ 53 ∷ 44 ∷ 45 ∷ 49 ∷ 44 ∷ 45 ∷ 49 ∷ 44 ∷ 45 ∷ 49 ∷ 10 ∷ [])
     ∷ (49 ∷ 44 ∷ 45 ∷ 49 ∷ 44 ∷ 49 ∷ 48 ∷ 44 ∷ 50 ∷ 48 ∷ 44 ∷ 51 ∷ 50 ∷ 44 ∷ 54 ∷ 52 ∷ 44 ∷ 46 ∷ 55 ∷ 53 ∷ 44 ∷ 45 ∷ 49 ∷ 44 ∷ 45 ∷ 49 ∷ 44 ∷ 45 ∷ 49 ∷ 10 ∷ []) ∷ [])
     ≡ Field OtherByte 1 2 ∷ Field FilledId 2 0 ∷ Field NotMinusOne 2 0 ∷ Field ManyDecimals 3 10 ∷ Field ManyDigits 3 8 ∷ Field MinusAlone 3 0 ∷ Field NoDigits 3 0 ∷ Field OtherByte 4 2 ∷ Field Empty 4 0 ∷ Field NoDecimals 4 0 ∷ Field NoDigits 7 0 ∷ []
-unfolding report_of field_report first_fault field_fault digits_fault unsigned_fault number_fault minus_one_fault id_fault scan value_fault frame_value place_value side_value score_value line_of is_line of_forms fields is_unsigned one_to_six every index_of with_digits beyond of_bits round lt neg
+unfolding report_of field_report first_fault field_fault digits_fault unsigned_fault number_fault minus_one_fault id_fault scan value_fault frame_value place_value side_value score_value line_of is_line of_forms fields is_unsigned one_to_six every index_of index_after with_digits beyond of_bits round lt neg
 known_forms = refl
 
 -- of a value, in the first line: frames 0 and 1001; left `-65537`; height 0; confidence 1.5 and -0.5
@@ -57,7 +57,7 @@ known_values : map (λ (l : List ℕ). report_of l 0) (
     ∷ (49 ∷ 44 ∷ 45 ∷ 49 ∷ 44 ∷ 49 ∷ 48 ∷ 44 ∷ 50 ∷ 48 ∷ 44 ∷ 51 ∷ 50 ∷ 44 ∷ 54 ∷ 52 ∷ 44 ∷ 49 ∷ 46 ∷ 53 ∷ 44 ∷ 45 ∷ 49 ∷ 44 ∷ 45 ∷ 49 ∷ 44 ∷ 45 ∷ 49 ∷ 10 ∷ [])
     ∷ (49 ∷ 44 ∷ 45 ∷ 49 ∷ 44 ∷ 49 ∷ 48 ∷ 44 ∷ 50 ∷ 48 ∷ 44 ∷ 51 ∷ 50 ∷ 44 ∷ 54 ∷ 52 ∷ 44 ∷ 45 ∷ 48 ∷ 46 ∷ 53 ∷ 44 ∷ 45 ∷ 49 ∷ 44 ∷ 45 ∷ 49 ∷ 44 ∷ 45 ∷ 49 ∷ 10 ∷ []) ∷ [])
     ≡ Field FrameZero 1 0 ∷ Field FirstFrameFar 1 0 ∷ Field Beyond 3 0 ∷ Field NotAboveZero 6 0 ∷ Field AboveOne 7 0 ∷ Field BelowZero 7 0 ∷ []
-unfolding report_of field_report first_fault field_fault digits_fault unsigned_fault number_fault minus_one_fault id_fault scan value_fault frame_value place_value side_value score_value line_of is_line of_forms fields is_unsigned one_to_six every index_of with_digits beyond of_bits round lt neg
+unfolding report_of field_report first_fault field_fault digits_fault unsigned_fault number_fault minus_one_fault id_fault scan value_fault frame_value place_value side_value score_value line_of is_line of_forms fields is_unsigned one_to_six every index_of index_after with_digits beyond of_bits round lt neg
 known_values = refl
 
 -- behind frame 7: frames 6, 7 and 1008
@@ -66,5 +66,5 @@ known-frames : map (λ (l : List ℕ). report_of l 7) (
     ∷ (55 ∷ 44 ∷ 45 ∷ 49 ∷ 44 ∷ 49 ∷ 48 ∷ tail)
     ∷ (49 ∷ 48 ∷ 48 ∷ 56 ∷ 44 ∷ 45 ∷ 49 ∷ 44 ∷ 49 ∷ 48 ∷ tail) ∷ [])
     ≡ Field FrameBack 1 0 ∷ Fine ∷ Field FrameFar 1 0 ∷ []
-unfolding report_of field_report first_fault field_fault digits_fault unsigned_fault number_fault minus_one_fault id_fault scan value_fault frame_value place_value side_value score_value line_of is_line of_forms fields is_unsigned one_to_six every index_of with_digits beyond of_bits round lt neg
+unfolding report_of field_report first_fault field_fault digits_fault unsigned_fault number_fault minus_one_fault id_fault scan value_fault frame_value place_value side_value score_value line_of is_line of_forms fields is_unsigned one_to_six every index_of index_after with_digits beyond of_bits round lt neg
 known-frames = refl

@@ -5,7 +5,7 @@ ghost use Rattle.mot_fault.specs.Form as Form;
 
 use crate::kinds::{Fault, Found};
 use mot_fields::minus_one;
-use mot_number::{FrameNumber, frame_of};
+use mot_number::{FrameNumber, find, frame_of};
 
 fn is_other(b: u8) -> bool
     ensures { result ≡ not (is_digit b) }
@@ -53,7 +53,7 @@ fn unsigned_fault(text: &[u8], skip: usize) -> Found
     ensures { result ≡ Form.unsigned_fault skip text.now }
 {
     let n = text.len();
-    let point = bytes::scan::find(text, 0, n, b'.');
+    let point = find(text, b'.');
     let whole = digits_fault(&text[..point], skip, Fault::NoDigits, Fault::ManyDigits);
     let Found::Fine = whole else {
         return whole;

@@ -1,5 +1,5 @@
 // What can be wrong with a line.
-#[derive(Drop)]
+#[derive(Clone, Copy)]
 pub enum Fault {
     // of the line
     NoLineFeed,
@@ -28,14 +28,14 @@ pub enum Fault {
 }
 
 // Of a field: the byte of it where the fault shows, counted from 1, or 0.
-#[derive(Drop)]
+#[derive(Clone, Copy)]
 pub enum Found {
     Fine,
     At(Fault, usize),
 }
 
 // Of a line: the field, counted from 1, and the byte of it. A FieldCount has how many fields there are, 11 where there are more; the other faults of the line have 0.
-#[derive(Drop)]
+#[derive(Clone, Copy)]
 pub enum Report {
     Fine,
     Field(Fault, usize, usize),

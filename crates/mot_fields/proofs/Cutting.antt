@@ -9,7 +9,7 @@ use lib.Dec.{eqb, ltb, leb-suc-suc}
 use lib.ListN.{length, take, drop, length-append}
 use lib.Seq.{take-length, take-append_seam, drop-append-add}
 use borrow.Author.Tests.{le-ltb, lt-ltb, eqb-false}
-use Rattle.bytes.specs.Bytes.{index_of, index_after}
+use Rattle.mot_number.specs.Index.{index_of, index_after}
 use Rattle.mot_number.proofs.Index.{Lacks, index-here}
 use Rattle.mot_fields.specs.Fields.{onto_first, fields}
 use Rattle.mot_fields.specs.Reading.{first, next}

@@ -8,7 +8,7 @@ use lib.Dec.{ltb}
 use lib.ListN.{length, drop, take-append-drop}
 use lib.Seq.{take_all}
 use borrow.Author.Tests.{ltb-true, ltb-false}
-use Rattle.bytes.specs.Bytes.{index_of}
+use Rattle.mot_number.specs.Index.{index_of}
 use Rattle.mot_number.proofs.Index.{index_at}
 use Rattle.mot_fields.specs.Fields.{fields}
 use Rattle.mot_fields.specs.Reading.{first, next}

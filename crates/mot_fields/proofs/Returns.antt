@@ -7,7 +7,7 @@ use native.Mathlib.Omega.{arith}
 use lib.ListN.{length, take}
 use lib.Ieee.{Float}
 use borrow.Author.Tests.{le-ltb, lt-ltb}
-use Rattle.bytes.specs.Bytes.{index_of}
+use Rattle.mot_number.specs.Index.{index_of}
 use Rattle.mot_number.specs.declared.number.FrameNumber.{FrameNumber}
 use Rattle.mot_number.specs.declared.number.FrameNumber.TheVariants as frame
 use Rattle.mot_number.specs.declared.number.Number.{Number}

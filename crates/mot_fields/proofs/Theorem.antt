@@ -8,7 +8,7 @@ use lib.Dec.{eqb, ltb}
 use lib.ListN.{length, drop}
 use lib.Seq.{take_all}
 use borrow.Author.Tests.{ltb-true, ltb-false, eqb-true}
-use Rattle.bytes.specs.Bytes.{index_of, index_after}
+use Rattle.mot_number.specs.Index.{index_of, index_after}
 use Rattle.laws.specs.Tests.{and_left, and_right, true_not_false, false_not_true}
 use Rattle.mot_fields.specs.Fields.{Form, fields, is_minus_one, of_forms}
 use Rattle.mot_fields.specs.Reading.{first, next, goes_on}
@@ -72,7 +72,7 @@ laws = record {
   fields-more = more-fields;
   fields_cut = cut;
   first_plain = plain_first;
-  goes_on = λ p ps t. on t p ps;
+  goes-on = λ p ps t. on t p ps;
   ends-here = λ p q ps t. off t p q ps;
   last-minus-one = last_one;
 }

@@ -1,6 +1,6 @@
 -- THE THEOREMS of the fields of a line. `laws` of proofs/Theorem.antt proves them.
 use Rattle.std.specs.Prelude.{◌≡◌, true, false, cond, List, [], ◌∷◌, ◌++◌, ℕ, ◌≤◌, ltb, length, drop}
-use Rattle.bytes.specs.Bytes.{index_of}
+use Rattle.mot_number.specs.Index.{index_of}
 use Rattle.mot_fields.specs.Fields.{Form, fields, is_minus_one, of_forms}
 use Rattle.mot_fields.specs.Reading.{first, next, goes_on}
 
@@ -16,7 +16,7 @@ pub record Laws : Type 0 where
   pub fields_cut : (t : List ℕ) → fields t ≡ first t ∷ cond (ltb (index_of 44 t) (length t)) (fields (drop (next t) t)) []
   pub first_plain : (t : List ℕ) → Plain (first t)
   -- a field that goes on is the first of its form, and the rest of the forms is asked of the rest; where one does not, the line has not these forms
-  pub goes_on : (p : Form) (ps : List Form) (t : List ℕ) → goes_on p t ≡ true → (of_forms (p ∷ ps) (fields t) ≡ of_forms ps (fields (drop (next t) t))) × (fields t ≡ first t ∷ fields (drop (next t) t)) × (next t ≤ length t)
+  pub goes-on : (p : Form) (ps : List Form) (t : List ℕ) → goes_on p t ≡ true → (of_forms (p ∷ ps) (fields t) ≡ of_forms ps (fields (drop (next t) t))) × (fields t ≡ first t ∷ fields (drop (next t) t)) × (next t ≤ length t)
   pub ends-here : (p q : Form) (ps : List Form) (t : List ℕ) → goes_on p t ≡ false → of_forms (p ∷ q ∷ ps) (fields t) ≡ false
   -- the last field
   pub last-minus-one : (t : List ℕ) → of_forms (is_minus_one ∷ []) (fields t) ≡ is_minus_one t

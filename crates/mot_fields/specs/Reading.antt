@@ -1,6 +1,6 @@
 -- A field read from the front of what is left of a line: what it is, and where the next one starts. Laws says what that tells of all fields.
 use Rattle.std.specs.Prelude.{Bool, cond, ◌&&◌, List, ℕ, ◌+◌, ltb, length, take}
-use Rattle.bytes.specs.Bytes.{index_of}
+use Rattle.mot_number.specs.Index.{index_of}
 use Rattle.mot_number.specs.Number.{is_frame, frame_of, is_number, decimal_of, f32_of}
 use Rattle.mot_fields.specs.declared.FrameField.{FrameField}
 use Rattle.mot_fields.specs.declared.FrameField.TheVariants as frame

@@ -1,11 +1,13 @@
 // The fields of a line of MOTChallenge text, read from the front: change request N1.
 // Each function that reads a field takes what is left of the line from that field on, and says where the next field starts in it. So a field that no other follows is turned away.
+#![tactic(auto)]
+
 ghost use Rattle.std.specs.Prelude.{◌≡◌};
-ghost use Rattle.bytes.specs.Bytes.{index_of};
+ghost use Rattle.mot_number.specs.Index.{index_of};
 ghost use Rattle.mot_fields.specs.Fields as Fields;
 ghost use Rattle.mot_fields.specs.Reading as Reading;
 
-use mot_number::{FrameNumber, Number, frame_of, number_of};
+use mot_number::{FrameNumber, Number, find, frame_of, number_of};
 
 #[derive(Drop)]
 pub enum FrameField {
@@ -29,7 +31,7 @@ pub enum MinusOneField {
 pub fn comma(rest: &[u8]) -> usize
     ensures { result ≡ index_of 44 rest.now }
 {
-    bytes::scan::find(rest, 0, rest.len(), b',')
+    find(rest, b',')
 }
 
 // The text is `-1`.

@@ -26,7 +26,7 @@ pub record Goes (form : Form) (t : List ℕ) (n : ℕ) : Type 0 where
   pub next-is : n ≡ next t
 
 pub goes-inside : (form : Form) (t : List ℕ) (n : ℕ) → Goes form t n → n ≤ length t
-goes-inside form t n g = subst (λ (k : ℕ). k ≤ length t) (sym g.next-is) (laws.goes_on form [] t g.on).2
+goes-inside form t n g = subst (λ (k : ℕ). k ≤ length t) (sym g.next-is) (laws.goes-on form [] t g.on).2
 
 pub frame-goes : (t : List ℕ) (r : FrameField) (v n : ℕ) → r ≡ frame_field t → r ≡ frame.Number v n → Goes is_frame t n × (v ≡ frame_of (first t))
 unfolding frame_field
@@ -94,7 +94,7 @@ reach_start t forms = record { asked = refl; cut = refl }
 module _ {t₀ : List ℕ} {forms : List Form} {read : List (List ℕ)} {p : Form} {left : List Form} {t : List ℕ} where
   pub reach_on : {n : ℕ} → Reached t₀ forms read (p ∷ left) t → Goes p t n → Reached t₀ forms (read ++ (first t ∷ [])) left (after t n)
   reach_on {n} w g =
-      let s = laws.goes_on p left t g.on in
+      let s = laws.goes-on p left t g.on in
       let e : fields (drop (next t) t) ≡ fields (after t n) = ap (λ (k : ℕ). fields (drop k t)) (sym g.next-is) ∙ ap fields (sym (after_is t n)) in
       record {
         asked = w.asked ∙ s.0 ∙ ap (of_forms left) e;
@@ -103,3 +103,31 @@ module _ {t₀ : List ℕ} {forms : List Form} {read : List (List ℕ)} {p : For
 
   pub reach_off : {q : Form} {qs : List Form} → Reached t₀ forms read (p ∷ left) t → left ≡ q ∷ qs → goes_on p t ≡ false → of_forms forms (fields t₀) ≡ false
   reach_off {q} {qs} w e h = w.asked ∙ ap (λ (l : List Form). of_forms (p ∷ l) (fields t)) e ∙ laws.ends-here p q qs t h
+
+-- ---- the same, from what a reader of a field answered
+
+module _ {t₀ : List ℕ} {forms : List Form} {read : List (List ℕ)} {left : List Form} {t : List ℕ} where
+  pub reach-number : {v : Float} {n : ℕ} → Reached t₀ forms read (is_number ∷ left) t → number.Value v n ≡ number_field t → Reached t₀ forms (read ++ (first t ∷ [])) left (after t n)
+  reach-number {v} {n} w e = reach_on w (number-goes t (number.Value v n) v n e refl).0
+
+  pub reach-minus-one : {n : ℕ} → Reached t₀ forms read (is_minus_one ∷ left) t → minus_one.Before n ≡ minus_one_field t → Reached t₀ forms (read ++ (first t ∷ [])) left (after t n)
+  reach-minus-one {n} w e = reach_on w (minus-one-goes t (minus_one.Before n) n e refl)
+
+  pub reach-frame : {v n : ℕ} → Reached t₀ forms read (is_frame ∷ left) t → frame.Number v n ≡ frame_field t → Reached t₀ forms (read ++ (first t ∷ [])) left (after t n)
+  reach-frame {v} {n} w e = reach_on w (frame-goes t (frame.Number v n) v n e refl).0
+
+module _ (t : List ℕ) where
+  pub number-is : {v : Float} {n : ℕ} → number.Value v n ≡ number_field t → v ≡ f32_of (decimal_of (first t))
+  number-is {v} {n} e = (number-goes t (number.Value v n) v n e refl).1
+
+  pub frame-is : {v n : ℕ} → frame.Number v n ≡ frame_field t → v ≡ frame_of (first t)
+  frame-is {v} {n} e = (frame-goes t (frame.Number v n) v n e refl).1
+
+  pub number-within : {v : Float} {n : ℕ} → number.Value v n ≡ number_field t → n ≤ length t
+  number-within {v} {n} e = goes-inside is_number t n (number-goes t (number.Value v n) v n e refl).0
+
+  pub minus-one-within : {n : ℕ} → minus_one.Before n ≡ minus_one_field t → n ≤ length t
+  minus-one-within {n} e = goes-inside is_minus_one t n (minus-one-goes t (minus_one.Before n) n e refl)
+
+  pub frame-within : {v n : ℕ} → frame.Number v n ≡ frame_field t → n ≤ length t
+  frame-within {v} {n} e = goes-inside is_frame t n (frame-goes t (frame.Number v n) v n e refl).0

@@ -7,7 +7,7 @@ use native.Mathlib.Omega.{arith}
 use lib.ListN.{length, take, drop, get_or, length-append, length-map, take-append-drop, get_or-eq_default, drop_of_length-le}
 use lib.Seq.{take-append_seam, get_or-append_seam, drop-cons}
 use borrow.Author.Tests.{eqb-true, eq-eqb}
-use Rattle.bytes.specs.Bytes.{index_of, index_after}
+use Rattle.mot_number.specs.Index.{index_of, index_after}
 use Rattle.laws.specs.Tests.{and_left, and_right, false_not_true}
 use Rattle.mot_number.specs.Number.{is_frame, is_number, decimal_of, f32_of}
 use Rattle.mot_number.specs.Numeral.{Numeral, in_bytes, pointed, signed, text_of}

@@ -1,7 +1,7 @@
 -- Lines as they are written, and what a call answers and leaves, by computation: document 01's box with its record, and each refusal beside a line that just passes it.
 use Rattle.std.specs.Prelude.{◌≡◌, refl, List, [], ◌∷◌, ◌++◌, map, ℕ, replicate}
 use Rattle.std.specs.Float.Ieee.{of_bits, to_bits, round, lt, neg}
-use Rattle.bytes.specs.Bytes.{index_of}
+use Rattle.mot_number.specs.Index.{index_of, index_after}
 use Rattle.laws.specs.Every.{every}
 use Rattle.box_verdict.specs.Box.{beyond, bad_box}
 use Rattle.records.specs.Field.{little_endian}
@@ -34,7 +34,7 @@ feed = 10 ∷ []
 -- ---- document 01's box. Two bytes more are lent than a record has
 known-record : mot_line (line_with one ten wide sure feed) 0 (replicate 27 170)
     ≡ outcome (Read 1) (1 ∷ 0 ∷ 0 ∷ 0 ∷ 0 ∷ 0 ∷ 32 ∷ 65 ∷ 0 ∷ 0 ∷ 160 ∷ 65 ∷ 0 ∷ 0 ∷ 0 ∷ 66 ∷ 0 ∷ 0 ∷ 128 ∷ 66 ∷ 0 ∷ 0 ∷ 64 ∷ 63 ∷ 1 ∷ 170 ∷ 170 ∷ [])
-unfolding mot_line first_of bad_frame bad_box beyond every is_line of_forms fields is_unsigned one_to_six index_of with_digits little_endian of_bits to_bits round lt neg
+unfolding mot_line first_of bad_frame bad_box beyond every is_line of_forms fields is_unsigned one_to_six index_of index_after with_digits little_endian of_bits to_bits round lt neg
 known-record = refl
 
 -- ---- refusal and frame, behind this frame and with so many bytes lent
@@ -54,7 +54,7 @@ known_51 : map (told 0 25) ((line_with one ten wide sure [])
     ∷ (line_with one (49 ∷ 101 ∷ 49 ∷ []) wide sure feed)
     ∷ (line_with one ten wide sure (44 ∷ 10 ∷ [])) ∷ [])
     ≡ (51, 0) ∷ (51, 0) ∷ (51, 0) ∷ (51, 0) ∷ (51, 0) ∷ (0, 1) ∷ (51, 0) ∷ (51, 0) ∷ (51, 0) ∷ (51, 0) ∷ (51, 0) ∷ []
-unfolding mot_line first_of bad_frame bad_box beyond every is_line of_forms fields is_unsigned one_to_six index_of with_digits little_endian of_bits to_bits round lt neg
+unfolding mot_line first_of bad_frame bad_box beyond every is_line of_forms fields is_unsigned one_to_six index_of index_after with_digits little_endian of_bits to_bits round lt neg
 known_51 = refl
 
 -- 52: frame 0; behind frame 7 the frames 6, 7, 1007 and 1008
@@ -64,7 +64,7 @@ known-frames : map (told 7 25) ((line_with (48 ∷ []) ten wide sure feed)
     ∷ (line_with (49 ∷ 48 ∷ 48 ∷ 55 ∷ []) ten wide sure feed)
     ∷ (line_with (49 ∷ 48 ∷ 48 ∷ 56 ∷ []) ten wide sure feed) ∷ [])
     ≡ (52, 0) ∷ (52, 0) ∷ (0, 7) ∷ (0, 1007) ∷ (52, 0) ∷ []
-unfolding mot_line first_of bad_frame bad_box beyond every is_line of_forms fields is_unsigned one_to_six index_of with_digits little_endian of_bits to_bits round lt neg
+unfolding mot_line first_of bad_frame bad_box beyond every is_line of_forms fields is_unsigned one_to_six index_of index_after with_digits little_endian of_bits to_bits round lt neg
 known-frames = refl
 
 -- 52: `65536.003906`, which is 65536, and `65536.003907`; widths of `0`, `-0` and `0.000001`; scores of `1`, `1.000001`, `-0` and `-0.000001`
@@ -78,7 +78,7 @@ known_values : map (told 0 25) ((line_with one (54 ∷ 53 ∷ 53 ∷ 51 ∷ 54 �
     ∷ (line_with one ten wide (45 ∷ 48 ∷ []) feed)
     ∷ (line_with one ten wide (45 ∷ 48 ∷ 46 ∷ 48 ∷ 48 ∷ 48 ∷ 48 ∷ 48 ∷ 49 ∷ []) feed) ∷ [])
     ≡ (0, 1) ∷ (52, 0) ∷ (52, 0) ∷ (52, 0) ∷ (0, 1) ∷ (0, 1) ∷ (52, 0) ∷ (0, 1) ∷ (52, 0) ∷ []
-unfolding mot_line first_of bad_frame bad_box beyond every is_line of_forms fields is_unsigned one_to_six index_of with_digits little_endian of_bits to_bits round lt neg
+unfolding mot_line first_of bad_frame bad_box beyond every is_line of_forms fields is_unsigned one_to_six index_of index_after with_digits little_endian of_bits to_bits round lt neg
 known_values = refl
 
 -- 53: a record has 25 bytes. 52 comes before it, and 51 before both
@@ -86,5 +86,5 @@ known_53 : map (told 0 24) ((line_with one ten wide sure feed)
     ∷ (line_with one ten wide (50 ∷ []) feed)
     ∷ (line_with one ten wide (50 ∷ []) []) ∷ [])
     ≡ (53, 0) ∷ (52, 0) ∷ (51, 0) ∷ []
-unfolding mot_line first_of bad_frame bad_box beyond every is_line of_forms fields is_unsigned one_to_six index_of with_digits little_endian of_bits to_bits round lt neg
+unfolding mot_line first_of bad_frame bad_box beyond every is_line of_forms fields is_unsigned one_to_six index_of index_after with_digits little_endian of_bits to_bits round lt neg
 known_53 = refl

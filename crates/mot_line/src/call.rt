@@ -7,7 +7,7 @@ use box_verdict::bad_box;
 use records::{BoxRecord, Written, write_box};
 
 // Why a line is turned away, in this order.
-#[derive(Drop)]
+#[derive(Clone, Copy)]
 pub enum Refusal {
     // 51
     NotOfTheForm,
@@ -18,7 +18,7 @@ pub enum Refusal {
 }
 
 // The frame number of the record that was written.
-#[derive(Drop)]
+#[derive(Clone, Copy)]
 pub enum Answer {
     Read(u32),
     Refused(Refusal),

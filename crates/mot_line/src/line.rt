@@ -13,7 +13,7 @@ use records::BoxRecord;
 const SLEEPER: u8 = 1;
 
 // What a line is: a box, or not of this form.
-#[derive(Drop)]
+#[derive(Clone, Copy)]
 pub enum Line {
     Boxed(BoxRecord),
     Malformed,

@@ -1,15 +1,16 @@
--- Where a byte first stands in a text, and what stands before it and behind it. Assumes nothing.
+-- Where a byte first stands in a text, what stands before it and behind it, and how a loop finds it. Assumes nothing.
 use mathlib.Core.Path.{◌≡◌, refl, sym, ap, ◌∙◌}
 use mathlib.Core.Bool.{Bool, true, false}
 use mathlib.Core.List.{List, [], ◌∷◌, ◌++◌}
 use Prim.Native.Nat.{ℕ, suc, ◌+◌, ◌≤◌, ◌<◌}
-use native.Mathlib.Nat.{not-suc-le-zero, le_of_suc-le-suc}
+use native.Mathlib.Nat.{not-suc-le-zero, le_of_suc-le-suc, zero-add}
 use native.Mathlib.Numerals.{add-one}
 use native.Mathlib.Omega.{arith}
 use lib.Dec.{eqb}
-use lib.ListN.{length, drop}
+use lib.ListN.{length, drop, get_or, drop_of_length-le}
+use lib.Seq.{drop-cons}
 use borrow.Author.Tests.{eqb-true, ne_eqb, eq-eqb}
-use Rattle.bytes.specs.Bytes.{index_of, index_after}
+use Rattle.mot_number.specs.Index.{index_of, index_after}
 
 abbrev pub Lacks : ℕ → List ℕ → Type 0
 Lacks x [] = Unit {0}
@@ -48,3 +49,35 @@ module _ (x : ℕ) where
   unfolding index_of
   index_at [] h = absurd (not-suc-le-zero h)
   index_at (b ∷ bs) h = after-at (eqb b x) b bs refl (index_at bs) h
+
+-- ---- a loop that seeks x in t: it stands nowhere before place i
+pub record Seeking (x : ℕ) (t : List ℕ) (i : ℕ) : Type 0 where
+  pub upto : i ≤ length t
+  pub rest : index_of x t ≡ i + index_of x (drop i t)
+
+pub seek-start : (x : ℕ) (t : List ℕ) → Seeking x t 0
+seek-start x t = record { upto = omega arith; rest = sym (zero-add (index_of x t)) }
+
+module _ {x : ℕ} {t : List ℕ} {i : ℕ} (w : Seeking x t i) where
+  module _ (h : i < length t) where
+    cut : index_of x (drop i t) ≡ index_after (eqb (get_or t i 0) x) (index_of x (drop (i + 1) t))
+    unfolding index_of
+    cut = ap (index_of x) (drop-cons t i 0 h ∙ ap (λ (k : ℕ). get_or t i 0 ∷ drop k t) (sym (add-one i)))
+
+    pub seek-here : get_or t i 0 ≡ x → i ≡ index_of x t
+    unfolding index_after
+    seek-here e = let f : index_of x (drop i t) ≡ 0 = cut ∙ ap (λ (b : Bool). index_after b (index_of x (drop (i + 1) t))) (eq-eqb (get_or t i 0) x e) in let r = w.rest in omega arith
+
+    pub seek-on : (get_or t i 0 ≡ x → ⊥) → Seeking x t (i + 1)
+    unfolding index_after
+    seek-on e = record {
+      upto = omega arith;
+      rest =
+          let f : index_of x (drop i t) ≡ suc (index_of x (drop (i + 1) t)) = cut ∙ ap (λ (b : Bool). index_after b (index_of x (drop (i + 1) t))) (ne_eqb (get_or t i 0) x e) in
+          let r = w.rest in
+          omega arith;
+    }
+
+  pub seek-none : length t ≤ i → i ≡ index_of x t
+  unfolding index_of
+  seek-none h = let f : index_of x (drop i t) ≡ 0 = ap (index_of x) (drop_of_length-le t h) in let r = w.rest in omega arith

@@ -9,7 +9,7 @@ use lib.Dec.{leb}
 use lib.ListN.{length, take, drop, get_or, take-append-drop, drop_of_length-le, length-append}
 use lib.Seq.{take_all, take-length, take-append_seam, drop-append-add}
 use borrow.Author.Tests.{leb-true, ltb-true, ltb-false, eqb-true, le-leb, le-ltb, ne_eqb}
-use Rattle.bytes.specs.Bytes.{index_of}
+use Rattle.mot_number.specs.Index.{index_of}
 use Rattle.laws.specs.Tests.{and_left, and_right}
 use Rattle.laws.specs.Every.{every}
 use Rattle.mot_number.specs.Number.{Decimal, is_digit, one_to_six, whole_of, behind_of, has_point, is_unsigned, is_negative, unsigned_part, is_number, with_digits, decimal_of}

@@ -3,14 +3,14 @@ use mathlib.Core.Path.{◌≡◌, refl, sym, ap, subst, ◌∙◌}
 use mathlib.Core.Bool.{Bool, true, false, cond, ◌&&◌}
 use mathlib.Core.List.{List, [], ◌∷◌, ◌++◌, append-nil}
 use Prim.Native.Nat.{ℕ, ◌+◌, ◌-◌, ◌*◌, ◌^◌, ◌≤◌, ◌<◌}
-use native.Mathlib.Nat.{zero-add, pow-le-pow_right}
+use native.Mathlib.Nat.{pow-le-pow_right}
 use native.Mathlib.Omega.{arith}
 use lib.Dec.{lit<, leb}
 use lib.ListN.{length, take, drop, length-drop, drop_of_length-le}
-use lib.Seq.{take_all, take-length}
+use lib.Seq.{take_all}
 use lib.Ieee.{Float}
 use borrow.Author.Tests.{leb-true, lt-ltb, le-ltb}
-use Rattle.bytes.specs.Bytes.{slice, index_of}
+use Rattle.mot_number.specs.Index.{index_of}
 use Rattle.laws.specs.Tests.{and_left, and_right}
 use Rattle.laws.specs.Every.{every}
 use Rattle.mot_number.specs.declared.number.Digits.{Digits}
@@ -70,11 +70,7 @@ unfolding with_digits
 with_append v [] b = refl
 with_append v (x ∷ xs) b = with_append (v * 10 + (x - 48)) xs b
 
-module _ (u : List ℕ) (negative : Bool) (point : ℕ) (is : point ≡ 0 + index_of 46 (slice 0 (length u) u)) where
-  pub point_is : point ≡ index_of 46 u
-  unfolding slice
-  point_is = is ∙ zero-add (index_of 46 (drop 0 (take (length u) u))) ∙ ap (index_of 46) (take-length u)
-
+module _ (u : List ℕ) (negative : Bool) (point : ℕ) (point_is : point ≡ index_of 46 u) where
   whole_part : take point u ≡ whole_of u
   whole_part = ap (λ (k : ℕ). take k u) point_is
 

@@ -3,7 +3,7 @@
 use Rattle.std.specs.Prelude.{Bool, not, cond, ◌&&◌, ◌||◌, List, [], ◌∷◌, ◌++◌, ℕ, ◌+◌, ◌-◌, ◌*◌, ◌^◌, eqb, leb, ltb, length, take, drop, get_or, Float}
 use Rattle.std.specs.Float.{binary32}
 use Rattle.std.specs.Float.Ieee.{round}
-use Rattle.bytes.specs.Bytes.{index_of}
+use Rattle.mot_number.specs.Index.{index_of}
 use Rattle.laws.specs.Every.{every}
 use Rattle.mot_number.specs.declared.number.FrameNumber.{FrameNumber}
 use Rattle.mot_number.specs.declared.number.FrameNumber.TheVariants as frame

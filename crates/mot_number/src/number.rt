@@ -4,6 +4,7 @@ ghost use Rattle.mot_number.specs.Number as Spec;
 ghost use Rattle.mot_number.specs.Private as Private;
 
 use crate::fraction::magnitude;
+use crate::scan::find;
 
 // What a text is.
 #[derive(Drop)]
@@ -83,7 +84,7 @@ fn unsigned(text: &[u8], negative: bool) -> Number
     ensures { result ≡ Private.unsigned_of negative text.now }
 {
     let n = text.len();
-    let point = bytes::scan::find(text, 0, n, b'.');
+    let point = find(text, b'.');
     let Digits::Value(whole) = digits_of(&text[..point], 0) else {
         return Number::Malformed;
     };

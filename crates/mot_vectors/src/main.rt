@@ -4,6 +4,8 @@
 // A record of a number is the word 1, the text's length and the text: the bits of the f32 are printed, or `none`. One of a line
 // is the word 2, the previous frame number, how many of 64 bytes are lent, the line's length, the line, and a title: title,
 // refusal, frame and a digest of all 64 bytes are printed. Each of them is 170 before the call.
+#![tactic(auto)]
+
 use mot_number::Number;
 use vectors::line::Line;
 use vectors::{input, lent};

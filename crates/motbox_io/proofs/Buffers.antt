@@ -3,29 +3,25 @@ use mathlib.Core.Path.{◌≡◌, refl, sym, ap, subst, ◌∙◌}
 use mathlib.Core.Bool.{Bool, cond}
 use mathlib.Core.List.{List, [], ◌∷◌, ◌++◌}
 use Prim.Native.Nat.{ℕ, suc, ◌+◌, ◌≤◌, ◌<◌}
-use native.Mathlib.Nat.{zero-add, add_comm}
+use native.Mathlib.Nat.{add_comm}
 use native.Mathlib.Numerals.{add-one}
 use native.Mathlib.Omega.{arith}
 use lib.ListN.{length, take, drop, get_or, set, length-set, length-drop, take-append-drop}
-use lib.Seq.{take-length, take-suc, take-suc-set, drop-set-lt, drop-drop, get_or-drop}
+use lib.Seq.{take-suc, take-suc-set, drop-set-lt, drop-drop, get_or-drop}
 use borrow.Author.Tests.{lt-ltb, le-ltb}
-use Rattle.bytes.specs.Bytes.{slice, index_of}
+use Rattle.mot_number.specs.Index.{index_of}
 use Rattle.motbox_io.specs.Text.{line_length}
 
 -- ---- the first line; e is where the search of all bytes found the line feed
 
-pub feed-is : (t : List ℕ) {e : ℕ} → e ≡ 0 + index_of 10 (slice 0 (length t) t) → e ≡ index_of 10 t
-unfolding slice
-feed-is t is = is ∙ zero-add (index_of 10 (drop 0 (take (length t) t))) ∙ ap (index_of 10) (take-length t)
-
-module _ (t : List ℕ) (e : ℕ) (is : e ≡ 0 + index_of 10 (slice 0 (length t) t)) where
+module _ (t : List ℕ) (e : ℕ) (is : e ≡ index_of 10 t) where
   pub with_feed : e < length t → e + 1 ≡ line_length t
   with_feed h =
-      ap (λ (k : ℕ). k + 1) (feed-is t is)
-      ∙ sym (ap (λ (b : Bool). cond b (index_of 10 t + 1) (length t)) (lt-ltb (index_of 10 t) (length t) (subst (λ (k : ℕ). k < length t) (feed-is t is) h)))
+      ap (λ (k : ℕ). k + 1) is
+      ∙ sym (ap (λ (b : Bool). cond b (index_of 10 t + 1) (length t)) (lt-ltb (index_of 10 t) (length t) (subst (λ (k : ℕ). k < length t) is h)))
 
   pub without-feed : length t ≤ e → length t ≡ line_length t
-  without-feed h = sym (ap (λ (b : Bool). cond b (index_of 10 t + 1) (length t)) (le-ltb (index_of 10 t) (length t) (subst (λ (k : ℕ). length t ≤ k) (feed-is t is) h)))
+  without-feed h = sym (ap (λ (b : Bool). cond b (index_of 10 t + 1) (length t)) (le-ltb (index_of 10 t) (length t) (subst (λ (k : ℕ). length t ≤ k) is h)))
 
 -- ---- the first i of n bytes have come to the front, from place `next` on; l is the buffer as it was
 

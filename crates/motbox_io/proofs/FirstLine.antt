@@ -9,7 +9,7 @@ use native.Mathlib.Omega.{arith}
 use lib.Dec.{eqb, ltb, leb-suc-suc}
 use lib.ListN.{length, take, drop, get_or, length-append}
 use borrow.Author.Tests.{ltb-false}
-use Rattle.bytes.specs.Bytes.{index_of, index_after}
+use Rattle.mot_number.specs.Index.{index_of, index_after}
 use Rattle.laws.specs.Tests.{true_not_false}
 use Rattle.mot_fields.specs.Fields.{onto_first, fields, of_forms, body, is_ended, is_line}
 use Rattle.mot_line.specs.Line.{detection, is_detection}

@@ -1,9 +1,8 @@
 -- Where a run stands after a step. Assumes nothing.
 use mathlib.Core.Path.{◌≡◌}
-use mathlib.Core.Bool.{Bool, true, false, not}
+use mathlib.Core.Bool.{Bool, true, false}
 use Prim.Native.Nat.{ℕ, ◌+◌, min}
 use lib.Dec.{leb}
-use borrow.Author.Tests.{not-true, not-false}
 use Rattle.records.specs.BoxRecord.{box_bytes}
 use Rattle.mot_line.specs.declared.call.Answer.{Answer}
 use Rattle.mot_line.specs.declared.call.Answer.TheVariants.{Read, Refused}
@@ -16,11 +15,11 @@ use Rattle.motbox_io.specs.Text.{later}
 use Rattle.motbox_io.specs.Turn.{stopped, cleared, emptied, refilled, answered}
 
 module _ (p : Progress) where
-  pub not_written : (written : Bool) {r : Progress} → not written ≡ true → r ≡ stopped p → r ≡ emptied p written
-  not_written written e q = let w : written ≡ false = not-true written e in rw w q
+  pub not_written : (written : Bool) {r : Progress} → written ≡ false → r ≡ stopped p → r ≡ emptied p written
+  not_written written e q = rw e q
 
-  pub was_written : (written : Bool) → not written ≡ false → cleared p ≡ emptied p written
-  was_written written e = let w : written ≡ true = not-false written e in rw w
+  pub was_written : (written : Bool) → written ≡ true → cleared p ≡ emptied p written
+  was_written written e = rw e
 
   pub was_read : (kept size : ℕ) {input : Input} {n got : ℕ} → input ≡ Bytes n → got ≡ min (kept + n) size
       → record { previous = p.previous; lines = p.lines; got = got; next = 0; used = p.used; more = leb size got; going = p.going; failed = p.failed; refusal = p.refusal } ≡ refilled p kept size input

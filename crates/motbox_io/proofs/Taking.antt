@@ -10,7 +10,7 @@ use lib.Dec.{eqb}
 use lib.ListN.{length, take, drop, length-append, length-drop, take-append-drop}
 use lib.Seq.{take-length, take_at, take-nil, length-take-le, drop-drop}
 use borrow.Author.Tests.{eqb-true, eqb-false}
-use Rattle.bytes.specs.Bytes.{index_of}
+use Rattle.mot_number.specs.Index.{index_of}
 use Rattle.laws.specs.Tests.{true_not_false, false_not_true}
 use Rattle.records.specs.BoxRecord.{box_bytes}
 use Rattle.mot_line.specs.declared.call.Answer.{Answer}

@@ -7,9 +7,9 @@ use native.Mathlib.Omega.{arith}
 use lib.Dec.{eqb}
 use lib.ListN.{length, take, drop, length-drop}
 use lib.Seq.{take_at, length-take-le}
-use borrow.Author.Tests.{ltb-true, eq-eqb, ne_eqb, not-true, not-false}
+use borrow.Author.Tests.{ltb-true, eq-eqb, ne_eqb}
 use borrow.Rule.Slice.PartMut.{mid_of, put_mid, take_put}
-use Rattle.bytes.specs.Bytes.{index_of}
+use Rattle.mot_number.specs.Index.{index_of}
 use Rattle.laws.specs.Tests.{true_not_false}
 use Rattle.laws.specs.Over.{tail-part, tail-put}
 use Rattle.mot_line.specs.declared.call.Answer.{Answer}
@@ -24,17 +24,16 @@ use Rattle.motbox_io.specs.Turn.{crowded, dry, emptied, refilled, done, answered
 
 -- ---- what waits is written out
 
-pub not_due : (p : Progress) (due : Bool) → not due ≡ true → Empties p due p
-not_due p due h = let off : due ≡ false = not-true due h in record { written = true; so = ap (λ (b : Bool). cond b (emptied p true) p) (sym off) }
+pub not_due : (p : Progress) (due : Bool) → due ≡ false → Empties p due p
+not_due p due off = record { written = true; so = ap (λ (b : Bool). cond b (emptied p true) p) (sym off) }
 
-pub was_due : (p : Progress) (due written : Bool) {r : Progress} → not due ≡ false → r ≡ emptied p written → Empties p due r
-was_due p due written h q = let on : due ≡ true = not-false due h in record { written = written; so = q ∙ ap (λ (b : Bool). cond b (emptied p written) p) (sym on) }
+pub was_due : (p : Progress) (due written : Bool) {r : Progress} → due ≡ true → r ≡ emptied p written → Empties p due r
+was_due p due written on q = record { written = written; so = q ∙ ap (λ (b : Bool). cond b (emptied p written) p) (sym on) }
 
 -- ---- the buffer is filled
 
-pub not_filled : (p : Progress) (dry : Bool) (before : List ℕ) → not (p.going && dry) ≡ true → Fills p dry p before before
-not_filled p dry before h =
-    let off : (p.going && dry) ≡ false = not-true (p.going && dry) h in
+pub not_filled : (p : Progress) (dry : Bool) (before : List ℕ) → (p.going && dry) ≡ false → Fills p dry p before before
+not_filled p dry before off =
     record {
       input = Failed;
       within = λ _. tt;
@@ -43,7 +42,7 @@ not_filled p dry before h =
       same = λ _. refl;
     }
 
-module _ (p : Progress) (dry : Bool) (before : List ℕ) (s : Stands p (length before)) (h : not (p.going && dry) ≡ false) where
+module _ (p : Progress) (dry : Bool) (before : List ℕ) (s : Stands p (length before)) (on : (p.going && dry) ≡ true) where
   abbrev kept : ℕ
   kept = p.got - p.next
 
@@ -51,7 +50,6 @@ module _ (p : Progress) (dry : Bool) (before : List ℕ) (s : Stands p (length b
   pub was_filled : (shifted brought : List ℕ) (input : Input) {r : Progress} → length shifted ≡ length before → shifted ≡ held p before ++ drop kept before
       → Within (length (mid_of kept (length shifted - kept) shifted)) input → r ≡ refilled p kept (length shifted) input → Fills p dry r before (put_mid kept (length shifted - kept) shifted brought)
   was_filled shifted brought input size front within q =
-      let on : (p.going && dry) ≡ true = not-false (p.going && dry) h in
       let room : length (mid_of kept (length shifted - kept) shifted) ≡ length before - kept = ap length (tail-part shifted kept) ∙ length-drop kept shifted ∙ ap (λ (n : ℕ). n - kept) size in
       let long : length (held p before) ≡ kept = length-take-le kept (drop p.next before) (let d = length-drop p.next before in omega (arith, s.next, s.got)) in
       record {

@@ -1,7 +1,7 @@
 -- Examples that the definitions compute.
 use Rattle.std.specs.Prelude.{◌≡◌, refl, List, [], ◌∷◌, ◌++◌, ℕ}
 use Rattle.std.specs.Float.Ieee.{of_bits, to_bits, round, lt, neg}
-use Rattle.bytes.specs.Bytes.{index_of}
+use Rattle.mot_number.specs.Index.{index_of, index_after}
 use Rattle.laws.specs.Every.{every}
 use Rattle.box_verdict.specs.Box.{beyond, bad_box}
 use Rattle.records.specs.Field.{little_endian}
@@ -28,5 +28,5 @@ values = 0 ∷ 0 ∷ 32 ∷ 65 ∷ 0 ∷ 0 ∷ 160 ∷ 65 ∷ 0 ∷ 0 ∷ 0 ∷ 
 known_texts : (motbox ((49 ∷ box) ++ (10 ∷ (50 ∷ box) ++ (10 ∷ []))) ≡ converting ((1 ∷ 0 ∷ 0 ∷ 0 ∷ values) ++ (2 ∷ 0 ∷ 0 ∷ 0 ∷ values)) 0 2)
     × (motbox ((50 ∷ box) ++ (10 ∷ (49 ∷ box) ++ (10 ∷ (50 ∷ box) ++ (10 ∷ [])))) ≡ converting (2 ∷ 0 ∷ 0 ∷ 0 ∷ values) 52 2)
     × (motbox ((49 ∷ box) ++ (10 ∷ 50 ∷ box)) ≡ converting (1 ∷ 0 ∷ 0 ∷ 0 ∷ values) 51 2) × (motbox [] ≡ converting [] 0 0)
-unfolding lines_of converted mot_line first_of bad_frame bad_box beyond every is_line of_forms fields is_unsigned one_to_six index_of with_digits little_endian of_bits to_bits round lt neg
+unfolding lines_of converted mot_line first_of bad_frame bad_box beyond every is_line of_forms fields is_unsigned one_to_six index_of index_after with_digits little_endian of_bits to_bits round lt neg
 known_texts = (refl, refl, refl, refl)

@@ -1,6 +1,6 @@
 -- What `motbox` makes of its input: document 02, N1, line by line. A line that is turned away ends it, with the refusal's number and the line's, counted from 1.
 use Rattle.std.specs.Prelude.{Bool, cond, List, [], ◌∷◌, ◌++◌, ℕ, ◌+◌, min, eqb, ltb, length, replicate}
-use Rattle.bytes.specs.Bytes.{index_of}
+use Rattle.mot_number.specs.Index.{index_of}
 use Rattle.records.specs.BoxRecord.{box_bytes}
 use Rattle.mot_fields.specs.Fields.{onto_first}
 use Rattle.mot_line.specs.declared.call.Answer.{Answer}

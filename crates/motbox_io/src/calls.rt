@@ -2,17 +2,17 @@
 ghost use Rattle.std.specs.Prelude.{◌≤◌, length};
 ghost use Rattle.program_io.specs.Input.{Within};
 
-use program_io::{Input, read_in, write_out};
+use program_io::{Input, Streams, read_in, write_out};
 
 // Writes out the records that wait at the front. False where a write failed.
-pub(crate) fn flush(used: usize, out: &[u8]) -> bool
+pub(crate) fn flush(streams: Streams, used: usize, out: &[u8]) -> bool
     requires { used ≤ length out.now }
 {
-    write_out(b"motbox: standard output", &out[..used])
+    write_out(streams, b"motbox: standard output", &out[..used])
 }
 
-pub(crate) fn read(room: &mut [u8]) -> Input
+pub(crate) fn read(streams: Streams, room: &mut [u8]) -> Input
     ensures { Within (length room.old) result }
 {
-    read_in(b"motbox: standard input", room)
+    read_in(streams, b"motbox: standard input", room)
 }

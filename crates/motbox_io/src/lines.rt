@@ -2,12 +2,13 @@
 ghost use Rattle.std.specs.Prelude.{◌≡◌, ◌++◌, ◌-◌, ◌≤◌, length, take, drop};
 ghost use Rattle.motbox_io.specs.Text as Text;
 
+use mot_number::find;
+
 // There is a line feed.
 pub(crate) fn has_line(rest: &[u8]) -> bool
     ensures { result ≡ Text.has_line rest.now }
 {
-    let n = rest.len();
-    bytes::scan::find(rest, 0, n, b'\n') < n
+    find(rest, b'\n') < rest.len()
 }
 
 // How long the first line is, its line feed included; without one it is all that is there.
@@ -15,7 +16,7 @@ pub(crate) fn line_length(rest: &[u8]) -> usize
     ensures { result ≡ Text.line_length rest.now }
 {
     let n = rest.len();
-    let end = bytes::scan::find(rest, 0, n, b'\n');
+    let end = find(rest, b'\n');
     if end < n {
         return end + 1;
     }

@@ -8,7 +8,7 @@ use program_io::{Input, end_of};
 use records::BOX_BYTES;
 
 // What is known between two turns.
-#[derive(Drop)]
+#[derive(Clone, Copy)]
 pub struct Progress {
     // the frame number of the last record, 0 before the first
     pub previous: u32,

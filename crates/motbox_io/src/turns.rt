@@ -8,7 +8,9 @@ use crate::lines::{has_line, line_length, shift};
 use crate::progress::{Progress, answered, crowded, done, dry, emptied, refilled, start};
 use crate::words::explain;
 use mot_line::mot_line;
+use program_io::Streams;
 use records::BOX_BYTES;
+use std::io::Stderr;
 
 const INPUT_BYTES: usize = 65536;
 
@@ -16,18 +18,18 @@ const INPUT_BYTES: usize = 65536;
 const OUTPUT_BYTES: usize = INPUT_BYTES / BOX_BYTES * BOX_BYTES;
 
 // Writes out what waits where it is due: before the input is read on, so that nothing waits where a read fails.
-fn empty(p: Progress, due: bool, out: &[u8]) -> Progress
+fn empty(streams: Streams, p: Progress, due: bool, out: &[u8]) -> Progress
     requires { p.used ≤ length out.now }
     ensures { Spec.Empties p due result }
 {
     if !due {
         return p;
     }
-    emptied(p, flush(p.used, out))
+    emptied(p, flush(streams, p.used, out))
 }
 
 // Reads on behind the bytes that are left, which go to the front.
-fn read_on(p: Progress, dry: bool, input: &mut [u8]) -> Progress
+fn read_on(streams: Streams, p: Progress, dry: bool, input: &mut [u8]) -> Progress
     requires { Spec.Stands p (length input.old) }
     ensures { Spec.Fills p dry result input.old input.new }
 {
@@ -39,7 +41,7 @@ fn read_on(p: Progress, dry: bool, input: &mut [u8]) -> Progress
     let kept = got - next;
     shift(input, next, got);
     let size = input.len();
-    refilled(p, kept, size, read(&mut input[kept..]))
+    refilled(p, kept, size, read(streams, &mut input[kept..]))
 }
 
 // Takes the next line, or ends where none is left.
@@ -64,7 +66,7 @@ fn take(p: Progress, input: &[u8], out: &mut [u8]) -> Progress
     answered(p, n, size, answer)
 }
 
-fn turn(p: Progress, input: &mut [u8], out: &mut [u8]) -> Progress
+fn turn(streams: Streams, p: Progress, input: &mut [u8], out: &mut [u8]) -> Progress
     requires fact_1 { Spec.Stands p (length input.old) }
     requires fact_2 { p.used ≤ length out.old }
     ensures { Spec.Turned p result input.old input.new out.old out.new }
@@ -73,12 +75,12 @@ fn turn(p: Progress, input: &mut [u8], out: &mut [u8]) -> Progress
     let got = p.got;
     let dry = dry(p, input.len(), has_line(&input[next..got]));
     let due = crowded(p.used, out.len()) | dry;
-    let ready = read_on(empty(p, due, out), dry, input);
+    let ready = read_on(streams, empty(streams, p, due, out), dry, input);
     take(ready, input, out)
 }
 
 // Says why a line was turned away, but where a call failed.
-fn tell(p: Progress, input: &[u8])
+fn tell(errors: Stderr, p: Progress, input: &[u8])
     requires { Spec.Stands p (length input.now) }
 {
     if p.failed | (p.refusal == 0) {
@@ -88,12 +90,12 @@ fn tell(p: Progress, input: &[u8])
     let got = p.got;
     let rest = &input[next..got];
     let n = line_length(rest);
-    explain(p.refusal, p.lines, &rest[..n], p.previous);
+    explain(errors, p.refusal, p.lines, &rest[..n], p.previous);
 }
 
 // Turns, and at the end what still waits is written out.
 // A proved loop has to end: the count of turns is one that no run uses up.
-pub fn run() -> Progress
+pub fn run(streams: Streams) -> Progress
     ensures { Ran result }
 {
     let mut input = [0u8; INPUT_BYTES];
@@ -101,10 +103,10 @@ pub fn run() -> Progress
     let mut now = start();
     let mut turns = u64::MAX;
     while (0 < turns) & now.going {
-        now = turn(now, &mut input, &mut out);
+        now = turn(streams, now, &mut input, &mut out);
         turns -= 1;
     }
-    let last = empty(now, !now.failed, &out);
-    tell(last, &input);
+    let last = empty(streams, now, !now.failed, &out);
+    tell(streams.errors, last, &input);
     last
 }

@@ -5,7 +5,6 @@ use mathlib.Core.List.{List}
 use Prim.Native.Nat.{ℕ, ◌+◌, ◌-◌, ◌≤◌, ◌<◌}
 use native.Mathlib.Omega.{arith}
 use lib.Dec.{ltb}
-use lib.IntN.{ℤ, pos, negsuc}
 use lib.ListN.{length, take, length-take, length-drop}
 use borrow.Author.Tests.{ltb-true}
 use borrow.Rule.Slice.PartMut.{mid_of}
@@ -13,11 +12,7 @@ use Rattle.laws.specs.Tests.{and_left, and_right}
 use Rattle.laws.specs.Over.{tail-part}
 use Rattle.program_io.specs.declared.calls.Input.{Input}
 use Rattle.program_io.specs.declared.calls.Input.TheVariants.{Bytes, Failed}
-use Rattle.program_io.specs.Input.{input_of, Within}
-
-pub answer-within : (z : ℤ) (size : ℕ) → Within size (input_of z size)
-answer-within (pos n) size = omega arith
-answer-within (negsuc n) size = tt
+use Rattle.program_io.specs.Input.{Within}
 
 -- ---- a part of a buffer
 

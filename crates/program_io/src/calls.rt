@@ -1,6 +1,10 @@
-// Calls on a file that is open. Where one fails, errno is still its own when these return.
+// Reads of a reader. One that fails says so at once on standard error: `who` is what stands before the system's words, as `motbox: standard input`.
 ghost use Rattle.std.specs.Prelude.{◌≡◌, length};
 ghost use Rattle.program_io.specs.Input.{Within, input_of};
+
+use crate::failure::fail;
+use std::io;
+use std::io::{Read, Stderr};
 
 // What was read.
 #[derive(Drop)]
@@ -10,33 +14,35 @@ pub enum Input {
     Failed,
 }
 
-// What C answered to a call that had this room: a number below 0 where it failed.
-fn input_of(got: isize, room: &[u8]) -> Input
-    ensures { result ≡ input_of got (length room.now) }
+// What a call answered. One that failed is said.
+fn input_of(errors: Stderr, who: &[u8], got: io::Result<usize>) -> Input
+    ensures { result ≡ input_of got }
 {
-    if got < 0 {
-        Input::Failed
-    } else {
-        Input::Bytes(io::count(got, room))
+    match got {
+        Ok(n) => Input::Bytes(n),
+        Err(e) => {
+            fail(errors, who, e);
+            Input::Failed
+        }
     }
 }
 
 // One call: it may bring less than is there, and brings nothing at the end.
-fn read(fd: i32, room: &mut [u8]) -> Input
+fn read<R: Read>(from: &mut R, errors: Stderr, who: &[u8], room: &mut [u8]) -> Input
     ensures { Within (length room.old) result }
 {
-    let got = libc::read(fd, room);
-    input_of(got, room)
+    let got = from.read(room);
+    input_of(errors, who, got)
 }
 
 // Reads on until there is no room, or the end: what is less than there is room for is the last.
-pub fn read_full(fd: i32, room: &mut [u8]) -> Input
+pub fn read_full<R: Read>(from: &mut R, errors: Stderr, who: &[u8], room: &mut [u8]) -> Input
     ensures { Within (length room.old) result }
 {
     let size = room.len();
     let mut n = 0;
     while n < size {
-        let Input::Bytes(more) = read(fd, &mut room[n..]) else {
+        let Input::Bytes(more) = read(from, errors, who, &mut room[n..]) else {
             return Input::Failed;
         };
         if more == 0 {

@@ -1,25 +1,34 @@
-// Standard input and output. A call that fails is said at once on standard error, while errno is its own: `who` is what stands before the system's words, as `motbox: standard input`.
+// Standard input and output. A call that fails is said at once on standard error: `who` is what stands before the system's words, as `motbox: standard input`.
 ghost use Rattle.std.specs.Prelude.{length};
 ghost use Rattle.program_io.specs.Input.{Within};
 
 use crate::calls::{Input, read_full};
+use crate::failure::fail;
+use std::io::{Print, Stderr, Stdin, Stdout};
+
+// The three that a program has. Its `main` makes them.
+#[derive(Clone, Copy)]
+pub struct Streams {
+    pub input: Stdin,
+    pub output: Stdout,
+    pub errors: Stderr,
+}
 
 // Reads until there is no room, or the end.
-pub fn read_in(who: &[u8], room: &mut [u8]) -> Input
+pub fn read_in(streams: Streams, who: &[u8], room: &mut [u8]) -> Input
     ensures { Within (length room.old) result }
 {
-    let Input::Bytes(n) = read_full(libc::STDIN_FILENO, room) else {
-        os::fail(who);
-        return Input::Failed;
-    };
-    Input::Bytes(n)
+    let mut from = streams.input;
+    read_full(&mut from, streams.errors, who, room)
 }
 
 // Writes all of the bytes. False where a write failed.
-pub fn write_out(who: &[u8], bytes: &[u8]) -> bool {
-    if io::write_all(libc::STDOUT_FILENO, bytes) {
-        return true;
+pub fn write_out(streams: Streams, who: &[u8], bytes: &[u8]) -> bool {
+    match streams.output.write_all(bytes) {
+        Ok(()) => true,
+        Err(e) => {
+            fail(streams.errors, who, e);
+            false
+        }
     }
-    os::fail(who);
-    false
 }

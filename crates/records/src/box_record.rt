@@ -11,7 +11,7 @@ pub const BOX_BYTES: usize = 25;
 // Left, top, width, height and score: what a frame's slice has of each of its boxes.
 pub const BOX_VALUES: usize = 5;
 
-#[derive(Drop)]
+#[derive(Clone, Copy)]
 pub struct BoxRecord {
     pub frame: u32,
     pub left: f32,

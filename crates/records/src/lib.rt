@@ -1,4 +1,6 @@
 // Box records and track records: document 01, "Records and limits", over lent bytes.
+#![tactic(auto)]
+
 mod box_record;
 mod field;
 mod track_record;

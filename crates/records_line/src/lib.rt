@@ -1,4 +1,6 @@
 // Numbers as text, and the printed lines: document 01, "Records and limits", over lent bytes.
+#![tactic(auto)]
+
 mod line;
 mod text;
 

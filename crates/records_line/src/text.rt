@@ -30,8 +30,8 @@ fn glyph(d: u64) -> u8
 
 // Fills the cells with n's last digits, from the last one back.
 fn spell(cells: &mut [u8], base: u64, n: u64)
-    requires fact_1 { 0 < base }
-    requires fact_2 { base ≤ 16 }
+    requires base_positive { 0 < base }
+    requires base_at_most_16 { base ≤ 16 }
     ensures { cells.new ≡ Text.digits base (length cells.old) n }
 {
     let mut rest = n;
@@ -45,9 +45,9 @@ fn spell(cells: &mut [u8], base: u64, n: u64)
 
 // Each of these writes at `at` and answers where it ended. Here k digits.
 fn put_digits(out: &mut [u8], at: usize, k: usize, base: u64, n: u64) -> usize
-    requires fact_1 { at + k ≤ length out.old }
-    requires fact_2 { 0 < base }
-    requires fact_3 { base ≤ 16 }
+    requires fits { at + k ≤ length out.old }
+    requires base_positive { 0 < base }
+    requires base_at_most_16 { base ≤ 16 }
     ensures { Put at (Text.digits base k n) out.old result out.new }
 {
     let end = at + k;
@@ -57,9 +57,9 @@ fn put_digits(out: &mut [u8], at: usize, k: usize, base: u64, n: u64) -> usize
 
 // k digits, and the byte that follows them.
 fn put_number(out: &mut [u8], at: usize, k: usize, base: u64, n: u64, then: u8) -> usize
-    requires fact_1 { at + k < length out.old }
-    requires fact_2 { 0 < base }
-    requires fact_3 { base ≤ 16 }
+    requires fits { at + k < length out.old }
+    requires base_positive { 0 < base }
+    requires base_at_most_16 { base ≤ 16 }
     ensures { Put at (Text.ended (Text.digits base k n) then) out.old result out.new }
 {
     let end = put_digits(out, at, k, base, n);
@@ -86,7 +86,7 @@ pub(crate) fn put_word(out: &mut [u8], at: usize, word: &[u8]) -> usize
     ensures { Put at word.now out.old result out.new }
 {
     let end = at + word.len();
-    bytes::copy(word, &mut out[at..end]);
+    out[at..end].copy_from_slice(word);
     end
 }
 

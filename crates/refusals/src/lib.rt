@@ -1,4 +1,6 @@
 // What refusals share: why a call of a pairing routine is turned down, with its number, and the larger and the smaller of two sides.
+#![tactic(auto)]
+
 mod refusal;
 mod sides;
 

@@ -18,8 +18,8 @@ convert_bbox_to_z bbox =
     let h : Float = bbox.y2 ⊖ bbox.y1 in
     record { x = bbox.x1 ⊕ w ⊘ two; y = bbox.y1 ⊕ h ⊘ two; h = h; r = w ⊘ (h ⊕ millionth) }
 
-abbrev pub convert_zto_bbox : DetectBox → Xyxy
-convert_zto_bbox z =
+abbrev pub convert_z_to_bbox : DetectBox → Xyxy
+convert_z_to_bbox z =
     let h : Float = z.h in
     let w : Float = width_of h z.r in
     record { x1 = z.x ⊖ w ⊘ two; y1 = z.y ⊖ h ⊘ two; x2 = z.x ⊕ w ⊘ two; y2 = z.y ⊕ h ⊘ two }
@@ -81,4 +81,4 @@ abbrev pub get_kf_covariance_diag : KalmanBoxTracker → DetectBox
 get_kf_covariance_diag t = record { x = t.kf.x.a; y = t.kf.y.a; h = t.kf.h.a; r = t.kf.r.a }
 
 unfoldable pub get_state : KalmanBoxTracker → Xyxy
-get_state t = convert_zto_bbox (get_kf_state t)
+get_state t = convert_z_to_bbox (get_kf_state t)

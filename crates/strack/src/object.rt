@@ -5,13 +5,13 @@ ghost use Rattle.strack.specs.Object.{new as new_object};
 use crate::rect::Rect;
 
 // The Rust's Option<usize>.
-#[derive(Drop)]
+#[derive(Clone, Copy)]
 pub enum TrackId {
     Known(u64),
     Unknown,
 }
 
-#[derive(Drop)]
+#[derive(Clone, Copy)]
 pub struct Object {
     pub rect: Rect,
     pub prob: f32,

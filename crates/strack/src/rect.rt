@@ -2,7 +2,7 @@
 ghost use Rattle.std.specs.Prelude.{◌≡◌};
 ghost use Rattle.strack.specs.Rect.{new as new_rect, area as area_of, shared_length, iou_over, calc_iou, get_xyah, get_xyxy, from_xyxy, width_of, centred, from_xyhr};
 
-#[derive(Drop)]
+#[derive(Clone, Copy)]
 pub struct Rect {
     pub left: f32,
     pub top: f32,
@@ -11,7 +11,7 @@ pub struct Rect {
 }
 
 // Centre x, centre y, aspect (width / height), height.
-#[derive(Drop)]
+#[derive(Clone, Copy)]
 pub struct Xyah {
     pub x: f32,
     pub y: f32,
@@ -20,7 +20,7 @@ pub struct Xyah {
 }
 
 // Two corners: left, top, right, bottom.
-#[derive(Drop)]
+#[derive(Clone, Copy)]
 pub struct Xyxy {
     pub x1: f32,
     pub y1: f32,

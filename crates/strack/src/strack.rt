@@ -1,12 +1,12 @@
 // A track, strack.rs: the filter of a box with its id and counters, handed to predict or correct by
 // value and handed back; the conversions between corners and a measurement.
 ghost use Rattle.std.specs.Prelude.{◌≡◌, if◌then◌else◌, nat_lt};
-ghost use Rattle.strack.specs.Strack.{convert_bbox_to_z, convert_zto_bbox, new as new_track, as_i32, exponent, confidence, get_confidence, update as update_track, track_answer, predict as predict_track, get_state, get_kf_state, get_kf_covariance_diag};
+ghost use Rattle.strack.specs.Strack.{convert_bbox_to_z, convert_z_to_bbox, new as new_track, as_i32, exponent, confidence, get_confidence, update as update_track, track_answer, predict as predict_track, get_state, get_kf_state, get_kf_covariance_diag};
 
 use crate::rect::Xyxy;
 use strack_filter::kalman_filter::{DetectBox, FilterCorrection, KalmanFilter};
 
-#[derive(Drop)]
+#[derive(Clone, Copy)]
 pub struct KalmanBoxTracker {
     pub kf: KalmanFilter,
     pub id: u64,
@@ -19,7 +19,7 @@ pub struct KalmanBoxTracker {
 }
 
 // A corrected track, or the track as it was where the filter refuses.
-#[derive(Drop)]
+#[derive(Clone, Copy)]
 pub enum TrackCorrection {
     Corrected(KalmanBoxTracker),
     Refused(KalmanBoxTracker),
@@ -39,7 +39,7 @@ pub fn convert_bbox_to_z(bbox: Xyxy) -> DetectBox
 }
 
 pub fn convert_z_to_bbox(z: DetectBox) -> Xyxy
-    ensures { result ≡ convert_zto_bbox z }
+    ensures { result ≡ convert_z_to_bbox z }
 {
     let w = crate::rect::width_of(z.h, z.r);
     Xyxy {

@@ -14,7 +14,7 @@ const R_H: f32 = 10.0;
 const R_R: f32 = 0.01;
 
 // A measured box: centre x, centre y, height, aspect (width / height).
-#[derive(Drop)]
+#[derive(Clone, Copy)]
 pub struct DetectBox {
     pub x: f32,
     pub y: f32,
@@ -24,7 +24,7 @@ pub struct DetectBox {
 
 // Position p, speed v, covariances (rows: a b, c d).
 #[repr(C)]
-#[derive(Drop)]
+#[derive(Clone, Copy)]
 pub struct Pair {
     pub p: f32,
     pub v: f32,
@@ -35,13 +35,13 @@ pub struct Pair {
 }
 
 // A corrected pair, or the pair as it was where A + R is not positive and finite.
-#[derive(Drop)]
+#[derive(Clone, Copy)]
 pub enum PairCorrection {
     Corrected(Pair),
     Refused(Pair),
 }
 
-#[derive(Drop)]
+#[derive(Clone, Copy)]
 pub struct KalmanFilter {
     pub x: Pair,
     pub y: Pair,
@@ -50,7 +50,7 @@ pub struct KalmanFilter {
 }
 
 // A corrected filter, or the filter as it was where one of its pairs is refused.
-#[derive(Drop)]
+#[derive(Clone, Copy)]
 pub enum FilterCorrection {
     Corrected(KalmanFilter),
     Refused(KalmanFilter),

@@ -6,6 +6,8 @@
 // corrects by as many boxes as the first word says; two follow. 2 prints the track whole. 3 is a confidence with
 // counters: of the words 1 to 4 the first two are the time since update and the others the age, the lower half first.
 // 4 is what the functions of a box make of two boxes.
+#![tactic(auto)]
+
 use strack::rect::{Rect, Xyxy};
 use strack::strack::KalmanBoxTracker;
 use strack_filter::kalman_filter::Pair;

@@ -398,7 +398,7 @@ ahead_more st bs r rs rest n e = rw e
 
 ahead-end : (st : OpenFrame) (bs : List BoxRecord) (rest : ℕ) → told_at_end st bs (closed (nth_after st.records) rest) ≡ ahead st bs [] rest
 unfolding ahead
-ahead-end st bs rest = refl
+ahead-end opened bs rest = refl
 
 module _ (feed : Feed) (m : Memory) (s : Scratch) (z : Sized feed s) (bs : List BoxRecord) (h : Holds feed m bs) (out : List ℕ) (rest : ℕ) (Took More : Feed → Memory → List ℕ → Type 0) where
   abbrev Goal : List BoxRecord → ℕ → Type 0

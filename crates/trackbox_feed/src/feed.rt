@@ -12,7 +12,7 @@ use records_line::LINE_BYTES;
 use trackbox_stream::{Ending, Next, OpenFrame, Refusal, close, hold, hold_label, judge};
 
 // What is known between two calls.
-#[derive(Drop)]
+#[derive(Clone, Copy)]
 pub struct Feed {
     pub opened: OpenFrame,
     // empty frames before the open one that are not worked yet
@@ -22,14 +22,14 @@ pub struct Feed {
 }
 
 // What is handed on.
-#[derive(Drop)]
+#[derive(Clone, Copy)]
 pub enum Item {
     Record(BoxRecord),
     // The input has ended, with so many bytes behind the last whole record.
     End(usize),
 }
 
-#[derive(Drop)]
+#[derive(Clone, Copy)]
 pub enum Fed {
     // The record is taken. What is known then, and how many bytes of text there are.
     Taken(Feed, usize),
@@ -42,7 +42,7 @@ pub enum Fed {
 }
 
 // What a call does.
-#[derive(Drop)]
+#[derive(Clone, Copy)]
 pub enum Turn {
     // An empty frame that comes before is worked.
     Empty,

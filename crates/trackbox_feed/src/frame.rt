@@ -12,7 +12,7 @@ use refusals::smaller;
 use trackbox_stream::Refusal;
 
 // What a call works.
-#[derive(Drop)]
+#[derive(Clone, Copy)]
 pub enum Task {
     Nothing,
     // A frame of the first so many boxes.
@@ -21,7 +21,7 @@ pub enum Task {
     Refused(Refusal, u64),
 }
 
-#[derive(Drop)]
+#[derive(Clone, Copy)]
 pub enum Worked {
     // The table's state behind the frame, and how many bytes of text the frame has.
     Done(State, usize),

@@ -24,7 +24,7 @@ use Rattle.trackbox_feed.specs.declared.feed.Fed.{Fed}
 use Rattle.trackbox_feed.specs.declared.feed.Fed.TheVariants.{Taken, Again, Ended, Short}
 use Rattle.trackbox_feed.specs.Trackbox.{lent_output, lent_doubles, lent_singles}
 use Rattle.trackbox_feed.specs.Feed.{Lent, has_room, Call, call_with, work_front, work_open, again_then, later_then, last_then, next_then, end_then, call_then, taken, finished}
-use Rattle.trackbox_feed.specs.Laws.{Memory, Scratch, Sized, lent_of, memory_of, SaidOf, Prints, memory}
+use Rattle.trackbox_feed.specs.Laws.{Memory, Scratch, Sized, lent_of, memory_of, SaidOf, Prints}
 
 -- ---- what a call can answer
 

@@ -26,13 +26,13 @@ use Rattle.trackbox_feed.specs.Feed as calls
 use Rattle.trackbox_feed.specs.Laws.{Memory, Scratch, Serves, square, Sized, lent_of, SaidOf, Prints, memory}
 use Rattle.trackbox_feed.proofs.Theorem.{printed-is}
 use Rattle.trackbox_progress.specs.declared.progress.Progress.{Progress}
-use Rattle.trackbox_progress.specs.Progress.{start, spent, later}
+use Rattle.trackbox_progress.specs.Progress.{spent, later}
 use Rattle.trackbox_io.specs.Turn.{text_bytes, call_bytes, answered, item_at, Arrays, boxes_of, Sizes, Stands, Hands}
 use Rattle.trackbox_io.specs.Laws.{waiting, said}
 use Rattle.trackbox_io.specs.Printed.{memory_in, Onward, Goes, Along}
 use Rattle.trackbox_io.proofs.Waiting.{waiting_grows}
 use Rattle.trackbox_io.proofs.BufferRecords.{record_at, records-split, records-next, records-none, record-front}
-use Rattle.trackbox_io.proofs.CallAnswers.{AtEnd, AtRecord, finished-ends, taken-records, prints-record, prints-end, some}
+use Rattle.trackbox_io.proofs.CallAnswers.{AtEnd, AtRecord, finished-ends, taken-records, prints-record, prints-end}
 use Rattle.trackbox_io.proofs.Filling.{onward_as, going_or}
 
 regroup : (w x y o : List ℕ) {t : List ℕ} → t ≡ x ++ y → (w ++ x) ++ (y ++ o) ≡ (w ++ t) ++ o

@@ -21,7 +21,7 @@ use Rattle.program_io.specs.declared.calls.Input.{Input}
 use Rattle.program_io.specs.declared.calls.Input.TheVariants.{Bytes, Failed}
 use Rattle.program_io.specs.Prefix.{Prefix}
 use Rattle.trackbox_progress.specs.declared.progress.Progress.{Progress}
-use Rattle.trackbox_progress.specs.Progress.{start, spent, emptied}
+use Rattle.trackbox_progress.specs.Progress.{spent, emptied}
 use Rattle.trackbox_io.specs.Turn.{text_bytes, input_bytes, call_bytes, crowded, refilled, Arrays, with_input, Sizes, Stands, Empties, Fills, Turned}
 use Rattle.trackbox_io.specs.Laws.{waiting}
 use Rattle.trackbox_io.specs.Printed.{memory_in, Onward, Along, Printed}

@@ -6,8 +6,8 @@ use Prim.Native.Nat.{ℕ, ◌-◌, ◌*◌}
 use native.Mathlib.Omega.{arith}
 use lib.ListN.{length, take}
 use lib.Ieee.{Float}
-use borrow.Author.Tests.{not-true, not-false}
 use borrow.Rule.Slice.PartMut.{mid_of, put_mid}
+use borrow.Author.Tests.{not-true, not-false}
 use Rattle.laws.specs.Over.{tail-part, tail-put}
 use Rattle.trackbox_feed.specs.declared.feed.Item.{Item}
 use Rattle.trackbox_feed.specs.declared.feed.Fed.{Fed}
@@ -26,26 +26,26 @@ use Rattle.trackbox_io.specs.Turn.{text_bytes, input_bytes, Leaves, Ends, crowde
 
 -- ---- what waits is written out
 
-pub not_due : (p : Progress) (size : ℕ) (x y : Bool) → x ≡ crowded p.used size → y ≡ spent p → not (x || y) ≡ true → Empties p p size
+pub not_due : (p : Progress) (size : ℕ) (x y : Bool) → x ≡ crowded p.used size → y ≡ spent p → (x || y) ≡ false → Empties p p size
 not_due p size x y e f h =
-    let off : (crowded p.used size || spent p) ≡ false = ap (λ (b : Bool). b || spent p) (sym e) ∙ ap (λ (b : Bool). x || b) (sym f) ∙ not-true (x || y) h in
+    let off : (crowded p.used size || spent p) ≡ false = ap (λ (b : Bool). b || spent p) (sym e) ∙ ap (λ (b : Bool). x || b) (sym f) ∙ h in
     record { written = true; so = ap (λ (b : Bool). cond b (emptied p true) p) (sym off) }
 
-pub due : (p : Progress) (size : ℕ) (x y w : Bool) {r : Progress} → x ≡ crowded p.used size → y ≡ spent p → not (x || y) ≡ false → r ≡ emptied p w → Empties p r size
+pub due : (p : Progress) (size : ℕ) (x y w : Bool) {r : Progress} → x ≡ crowded p.used size → y ≡ spent p → (x || y) ≡ true → r ≡ emptied p w → Empties p r size
 due p size x y w e f h q =
-    let on : (crowded p.used size || spent p) ≡ true = ap (λ (b : Bool). b || spent p) (sym e) ∙ ap (λ (b : Bool). x || b) (sym f) ∙ not-false (x || y) h in
+    let on : (crowded p.used size || spent p) ≡ true = ap (λ (b : Bool). b || spent p) (sym e) ∙ ap (λ (b : Bool). x || b) (sym f) ∙ h in
     record { written = w; so = q ∙ ap (λ (b : Bool). cond b (emptied p w) p) (sym on) }
 
 -- ---- the buffer is filled
 
-pub not_filled : (p : Progress) (before : List ℕ) (x : Bool) → x ≡ spent p → not (p.going && x) ≡ true → Fills p p before before
+pub not_filled : (p : Progress) (before : List ℕ) (x : Bool) → x ≡ spent p → (p.going && x) ≡ false → Fills p p before before
 not_filled p before x e h =
-    let off : (p.going && spent p) ≡ false = ap (λ (b : Bool). p.going && b) (sym e) ∙ not-true (p.going && x) h in
+    let off : (p.going && spent p) ≡ false = ap (λ (b : Bool). p.going && b) (sym e) ∙ h in
     record { input = Failed; within = tt; so = ap (λ (b : Bool). cond b (refilled p (length before) Failed) p) (sym off); same = λ _. refl }
 
-pub filled : (p : Progress) (before after : List ℕ) (x : Bool) (i : Input) {r : Progress} → x ≡ spent p → not (p.going && x) ≡ false → Within (length before) i → r ≡ refilled p (length before) i → Fills p r before after
+pub filled : (p : Progress) (before after : List ℕ) (x : Bool) (i : Input) {r : Progress} → x ≡ spent p → (p.going && x) ≡ true → Within (length before) i → r ≡ refilled p (length before) i → Fills p r before after
 filled p before after x i e h w q =
-    let on : (p.going && spent p) ≡ true = ap (λ (b : Bool). p.going && b) (sym e) ∙ not-false (p.going && x) h in
+    let on : (p.going && spent p) ≡ true = ap (λ (b : Bool). p.going && b) (sym e) ∙ h in
     record { input = i; within = w; so = q ∙ ap (λ (b : Bool). cond b (refilled p (length before) i) p) (sym on); same = λ f. absurd (true≢false (sym on ∙ f)) }
 
 -- ---- a record or the end is handed on

@@ -6,7 +6,7 @@ ghost use Rattle.trackbox_io.specs.Turn.{arrays};
 
 use crate::calls::{flush, read_input};
 use crate::progress::{answered, crowded, item, refilled};
-use program_io::Input;
+use program_io::{Input, Streams};
 use records::BOX_BYTES;
 use trackbox_feed::{
     LENT_BOX_LABELS, LENT_BOXES, LENT_COUNTERS, LENT_DOUBLES, LENT_FLOATS, LENT_LABELS,
@@ -19,7 +19,7 @@ const TEXT_BYTES: usize = 65536;
 // Whole records, so that none lies across the end of the buffer.
 const INPUT_BYTES: usize = TEXT_BYTES / BOX_BYTES * BOX_BYTES;
 
-#[derive(Drop)]
+#[derive(Clone, Copy)]
 pub enum Ran {
     // The stream has ended or was turned down, and what it prints is written. So many of its bytes were not read.
     Whole(u64),
@@ -28,7 +28,7 @@ pub enum Ran {
 }
 
 // Writes out what waits where the text has little room, and before the input is read on: so nothing waits where a read fails.
-fn empty(p: Progress, text: &[u8]) -> Progress
+fn empty(streams: Streams, p: Progress, text: &[u8]) -> Progress
     requires { p.used ≤ length text.now }
     ensures { Spec.Empties p result (length text.now) }
 {
@@ -36,30 +36,30 @@ fn empty(p: Progress, text: &[u8]) -> Progress
     if !(crowded(used, text.len()) | spent(p)) {
         return p;
     }
-    emptied(p, flush(used, text))
+    emptied(p, flush(streams, used, text))
 }
 
 // Reads at most `most` bytes.
-fn fill(most: u64, input: &mut [u8]) -> Input
+fn fill(streams: Streams, most: u64, input: &mut [u8]) -> Input
     ensures { Within (length input.old) result }
 {
     let size = input.len();
     if most < size as u64 {
         let want = most as usize;
-        return read_input(&mut input[..want]);
+        return read_input(streams, &mut input[..want]);
     }
-    read_input(input)
+    read_input(streams, input)
 }
 
 // Reads on where the buffer's records are taken.
-fn read_on(p: Progress, input: &mut [u8]) -> Progress
+fn read_on(streams: Streams, p: Progress, input: &mut [u8]) -> Progress
     ensures { Spec.Fills p result input.old input.new }
 {
     if !(p.going & spent(p)) {
         return p;
     }
     let size = input.len();
-    refilled(p, size, fill(p.left, input))
+    refilled(p, size, fill(streams, p.left, input))
 }
 
 // Hands a record or the end on. A frame is lent of the work slices what it needs: every lent cell is cleared.
@@ -107,6 +107,7 @@ fn hand(
 }
 
 fn turn(
+    streams: Streams,
     p: Progress,
     input: &mut [u8],
     text: &mut [u8],
@@ -125,7 +126,7 @@ fn turn(
         (arrays input.old text.old floats.old counters.old labels.old boxes.old box_labels.old out.old work64.old work32.old)
         (arrays input.new text.new floats.new counters.new labels.new boxes.new box_labels.new out.new work64.new work32.new) }
 {
-    let ready = read_on(empty(p, text), input);
+    let ready = read_on(streams, empty(streams, p, text), input);
     hand(
         ready, input, floats, counters, labels, boxes, box_labels, out, work64, work32, text,
     )
@@ -141,14 +142,14 @@ fn unread(left: u64, bytes: u64) -> u64
 }
 
 // Writes out what still waits.
-fn end(p: Progress, bytes: u64, text: &[u8]) -> Ran
+fn end(streams: Streams, p: Progress, bytes: u64, text: &[u8]) -> Ran
     requires { p.used ≤ length text.now }
     ensures { Spec.Ends p bytes result }
 {
     if p.failed {
         return Ran::Failed;
     }
-    if !flush(p.used, text) {
+    if !flush(streams, p.used, text) {
         return Ran::Failed;
     }
     Ran::Whole(unread(p.left, bytes))
@@ -156,7 +157,7 @@ fn end(p: Progress, bytes: u64, text: &[u8]) -> Ran
 
 // A stream of at most so many bytes.
 // A proved loop has to end: the count of turns is one that no run uses up.
-pub fn run(bytes: u64) -> Ran
+pub fn run(streams: Streams, bytes: u64) -> Ran
     ensures { Spec.Leaves bytes result }
 {
     let mut input = [0u8; INPUT_BYTES];
@@ -173,6 +174,7 @@ pub fn run(bytes: u64) -> Ran
     let mut turns = u64::MAX;
     while (0 < turns) & now.going {
         now = turn(
+            streams,
             now,
             &mut input,
             &mut text,
@@ -187,5 +189,5 @@ pub fn run(bytes: u64) -> Ran
         );
         turns -= 1;
     }
-    end(now, bytes, &text)
+    end(streams, now, bytes, &text)
 }

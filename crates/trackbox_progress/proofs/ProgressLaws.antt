@@ -1,6 +1,6 @@
 -- Each return of the functions on `Progress` is the definition's case. Assumes nothing.
 use mathlib.Core.Path.{◌≡◌, refl, sym}
-use mathlib.Core.Bool.{Bool, true, false, not, true≢false}
+use mathlib.Core.Bool.{Bool, true, false, true≢false}
 use Prim.Native.Nat.{ℕ, ◌+◌, ◌*◌, ◌/◌, ◌≤◌, ◌<◌, max}
 use native.Mathlib.Nat.{mul-le-mul}
 use native.Mathlib.Omega.{arith}
@@ -20,13 +20,13 @@ later_same next got h = rw (le-ltb next (got / box_bytes) h)
 
 -- ---- what a write leaves
 
-pub not_written : (p : Progress) (written : Bool) {r : Progress} → not written ≡ true → r ≡ stopped p → r ≡ emptied p written
-not_written p true e q = absurd (true≢false (sym e))
+pub not_written : (p : Progress) (written : Bool) {r : Progress} → written ≡ false → r ≡ stopped p → r ≡ emptied p written
+not_written p true e q = absurd (true≢false e)
 not_written p false e q = q
 
-pub was_written : (p : Progress) (written : Bool) → not written ≡ false → cleared p ≡ emptied p written
+pub was_written : (p : Progress) (written : Bool) → written ≡ true → cleared p ≡ emptied p written
 was_written p true e = refl
-was_written p false e = absurd (true≢false e)
+was_written p false e = absurd (true≢false (sym e))
 
 -- ---- what a frame needs
 

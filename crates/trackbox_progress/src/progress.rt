@@ -7,7 +7,7 @@ use refusals::larger;
 use trackbox_feed::{Feed, LENT_DOUBLES};
 
 // What is known between two turns.
-#[derive(Drop)]
+#[derive(Clone, Copy)]
 pub struct Progress {
     pub feed: Feed,
     // bytes of the stream that are not read yet

@@ -1,4 +1,6 @@
 // The rules of trackbox on a stream of box records: document 01, "When a call is turned down", trackbox. Lent memory holds the boxes of the open frame.
+#![tactic(auto)]
+
 mod boxes;
 mod rules;
 

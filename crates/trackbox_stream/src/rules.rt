@@ -3,7 +3,7 @@ ghost use Rattle.std.specs.Prelude.{◌≡◌};
 ghost use Rattle.trackbox_stream.specs.Rules as Rules;
 
 // What is known between two records.
-#[derive(Drop)]
+#[derive(Clone, Copy)]
 pub struct OpenFrame {
     // records so far
     pub records: u64,
@@ -16,7 +16,7 @@ pub struct OpenFrame {
 }
 
 // Why a stream is turned down: document 01's 41 to 44.
-#[derive(Drop)]
+#[derive(Clone, Copy)]
 pub enum Refusal {
     // 41
     RecordIncomplete,
@@ -28,7 +28,7 @@ pub enum Refusal {
     TooManyBoxes,
 }
 
-#[derive(Drop)]
+#[derive(Clone, Copy)]
 pub enum Next {
     // The record is the open frame's, and this is known with it.
     Same(OpenFrame),
@@ -38,7 +38,7 @@ pub enum Next {
     Refused(Refusal, u64),
 }
 
-#[derive(Drop)]
+#[derive(Clone, Copy)]
 pub enum Ending {
     // The open frame is worked, if there is one.
     Clean,

@@ -1,7 +1,10 @@
 // Replays streams, one after the other, as trackbox would print each. Before a stream stand 20 bytes: its name in 16 columns, and its length as a number of four bytes, the lowest first.
 // The name is printed before the lines. oracle/trackbox/vectors writes stdin and stdout.
+#![tactic(auto)]
+
 ghost use Rattle.std.specs.Prelude.{◌<◌};
 
+use program_io::Streams;
 use trackbox_io::Ran;
 
 fn wide(b: u8) -> u64
@@ -31,7 +34,7 @@ fn skip(bytes: u64) {
 }
 
 // One stream; false where there is none left, or a call failed.
-fn replay() -> bool {
+fn replay(streams: Streams) -> bool {
     let mut head = [0u8; 20];
     if io::read_full(0, &mut head) < 20 {
         return false;
@@ -39,7 +42,7 @@ fn replay() -> bool {
     if !(io::write_all(1, &head[0..16]) && io::write_all(1, b"\n")) {
         return false;
     }
-    let Ran::Whole(left) = trackbox_io::run(length_of(&head)) else {
+    let Ran::Whole(left) = trackbox_io::run(streams, length_of(&head)) else {
         return false;
     };
     skip(left);
@@ -47,9 +50,14 @@ fn replay() -> bool {
 }
 
 // A proved loop has to end, and nothing says that the input does: the count is one that no run uses up.
-fn main() {
+fn main(rt: HostRuntime) {
+    let standard = Streams {
+        input: rt.stdin(),
+        output: rt.stdout(),
+        errors: rt.stderr(),
+    };
     let mut streams = u64::MAX;
-    while streams > 0 && replay() {
+    while streams > 0 && replay(standard) {
         streams -= 1;
     }
 }

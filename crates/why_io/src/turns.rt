@@ -3,6 +3,7 @@ use crate::asking::{ask, say};
 use program_io::{Input, read_full};
 use records::{BOX_BYTES, BoxAnswer, read_box};
 use refusals::smaller;
+use std::io::{Read, Stderr};
 use trackbox_feed::{
     Fed, Feed, Item, LENT_BOX_LABELS, LENT_BOXES, LENT_COUNTERS, LENT_DOUBLES, LENT_FLOATS,
     LENT_LABELS, LENT_OUTPUT, LENT_SINGLES,
@@ -16,7 +17,7 @@ pub const TEXT_BYTES: usize = 8192;
 // Whole records, so that none lies across the end of the buffer.
 const INPUT_BYTES: usize = 65536 / BOX_BYTES * BOX_BYTES;
 
-#[derive(Drop)]
+#[derive(Clone, Copy)]
 pub enum Ran {
     // So many bytes at the front of the text are the answer, or a refusal of the stream.
     Said(usize),
@@ -27,7 +28,7 @@ pub enum Ran {
 }
 
 // What is known between two turns.
-#[derive(Drop)]
+#[derive(Clone, Copy)]
 pub struct Progress {
     pub feed: Feed,
     // false once the file's last bytes are read
@@ -38,7 +39,7 @@ pub struct Progress {
     pub next: usize,
 }
 
-#[derive(Drop)]
+#[derive(Clone, Copy)]
 pub enum Stand {
     Goes(Progress),
     Ends(Ran),
@@ -54,14 +55,19 @@ fn start() -> Progress {
 }
 
 // Reads on where the buffer's records are taken.
-fn read_on(p: Progress, from: i32, name: &[u8], input: &mut [u8]) -> Stand {
+fn read_on<R: Read>(
+    p: Progress,
+    from: &mut R,
+    errors: Stderr,
+    name: &[u8],
+    input: &mut [u8],
+) -> Stand {
     if !((p.got / BOX_BYTES <= p.next) & p.more) {
         return Stand::Goes(p);
     }
     let feed = p.feed;
     let size = input.len();
-    let Input::Bytes(n) = read_full(from, input) else {
-        os::fail(name);
+    let Input::Bytes(n) = read_full(from, errors, name, input) else {
         return Stand::Ends(Ran::Failed);
     };
     Stand::Goes(Progress {
@@ -197,9 +203,10 @@ fn hand(
     }
 }
 
-fn turn(
+fn turn<R: Read>(
     q: Question,
-    from: i32,
+    from: &mut R,
+    errors: Stderr,
     name: &[u8],
     p: Progress,
     input: &mut [u8],
@@ -213,7 +220,7 @@ fn turn(
     work32: &mut [f32],
     text: &mut [u8],
 ) -> Stand {
-    let Stand::Goes(ready) = read_on(p, from, name, input) else {
+    let Stand::Goes(ready) = read_on(p, from, errors, name, input) else {
         return Stand::Ends(Ran::Failed);
     };
     let next = item(ready.next, ready.got, input);
@@ -230,9 +237,10 @@ fn ended(stand: Stand) -> Ran {
 }
 
 // What is lent for a file: a buffer, and for 64 tracks and 64 boxes as trackbox does.
-fn turn_over(
+fn turn_over<R: Read>(
     q: Question,
-    from: i32,
+    from: &mut R,
+    errors: Stderr,
     name: &[u8],
     p: Progress,
     input: &mut [u8; INPUT_BYTES],
@@ -247,14 +255,20 @@ fn turn_over(
     text: &mut [u8],
 ) -> Stand {
     turn(
-        q, from, name, p, input, floats, counters, labels, boxes, box_labels, out, work64, work32,
-        text,
+        q, from, errors, name, p, input, floats, counters, labels, boxes, box_labels, out, work64,
+        work32, text,
     )
 }
 
-// The answer to a question about the file that is open as `from`; `name` is what standard error calls it where a read fails.
+// The answer to a question about the file that `from` reads; `name` is what standard error calls it where a read fails.
 // A proved loop has to end: the count of turns is one that no run uses up.
-pub fn run(q: Question, from: i32, name: &[u8], text: &mut [u8]) -> Ran {
+pub fn run<R: Read>(
+    q: Question,
+    from: &mut R,
+    errors: Stderr,
+    name: &[u8],
+    text: &mut [u8],
+) -> Ran {
     let mut input = [0u8; INPUT_BYTES];
     let mut floats = [0.0f32; LENT_FLOATS];
     let mut counters = [0u64; LENT_COUNTERS];
@@ -270,6 +284,7 @@ pub fn run(q: Question, from: i32, name: &[u8], text: &mut [u8]) -> Ran {
         let stand = turn_over(
             q,
             from,
+            errors,
             name,
             now,
             &mut input,

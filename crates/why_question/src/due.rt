@@ -5,7 +5,7 @@ ghost use Rattle.why_question.specs.Due as Spec;
 use trackbox_feed::{Feed, Item};
 use trackbox_stream::{Ending, Next, OpenFrame, close, judge};
 
-#[derive(Drop)]
+#[derive(Clone, Copy)]
 pub enum Due {
     // no frame, or the stream is turned down
     Nothing,
@@ -64,7 +64,7 @@ fn next_due(feed: Feed, item: Item) -> Due
 }
 
 // What is done with an item.
-#[derive(Drop)]
+#[derive(Clone, Copy)]
 pub enum Move {
     // The frame asked about is due, with so many boxes.
     Explain(usize),

@@ -1,4 +1,6 @@
 // What the program why is asked, and when the frame that is asked about is due.
+#![tactic(auto)]
+
 mod due;
 mod question;
 

@@ -3,13 +3,13 @@ ghost use Rattle.std.specs.Prelude.{◌≡◌};
 ghost use Rattle.why_question.specs.Question as Spec;
 
 // A frame's number, and the index of one of its boxes, counted from 0.
-#[derive(Drop)]
+#[derive(Clone, Copy)]
 pub struct Question {
     pub frame: u64,
     pub index: u64,
 }
 
-#[derive(Drop)]
+#[derive(Clone, Copy)]
 pub enum Number {
     Of(u64),
     // not one to ten digits alone

@@ -1,5 +1,5 @@
 -- Texts one behind the other, each of at most so many bytes. Assumes nothing.
-use Rattle.std.proofs.Common.{◌≡◌, ℕ, ◌+◌, ◌-◌, ◌/◌, ◌%◌, ◌<◌, ◌≤◌, Bool, true, false, cond, eqb, leb, List, [], ◌∷◌, ◌++◌, length, take, drop, sym, refl, ap, ◌∙◌, subst, append-nil, zero-add, arith, length-append, length-drop, take-append-drop, length-take, drop-drop, le-leb}
+use Rattle.std.proofs.Common.{◌≡◌, ℕ, ◌+◌, ◌-◌, ◌/◌, ◌%◌, ◌<◌, ◌≤◌, Bool, true, false, cond, eqb, leb, List, [], ◌∷◌, ◌++◌, length, take, drop, sym, ap, ◌∙◌, subst, append-nil, zero-add, arith, length-append, length-drop, take-append-drop, length-take, drop-drop, le-leb}
 use lib.Seq.{take-length, drop-length}
 use lib.Ieee.{Float}
 use borrow.Author.Tests.{lt-leb}
@@ -8,7 +8,7 @@ use Rattle.laws.specs.Splice.{splice}
 use Rattle.records.specs.declared.Written.{Written}
 use Rattle.records.specs.declared.Written.TheVariants as written
 use Rattle.records_line.specs.Text.{decimal}
-use Rattle.records.specs.Written.{Writes, WritesText, Put}
+use Rattle.records.specs.Written.{Writes, WritesText}
 use Rattle.records.proofs.Puts.{put-length, put-put, writes, no_write}
 use Rattle.records_line.proofs.Laws.{decimal-most}
 use Rattle.records.proofs.Laws.{text_fitted}

@@ -1,13 +1,11 @@
 -- Numbers and lines, computed by the definition: the line of a rejected box, as a scorer sees it, and those of the other fates.
-use Rattle.std.specs.Prelude.{◌≡◌, ℕ, Bool, true, false, List, [], ◌∷◌, map, refl, Float}
-use Prim.Native.String.{String}
+use Rattle.std.specs.Prelude.{◌≡◌, ℕ, Bool, true, false, List, [], ◌∷◌, map, refl}
 use Rattle.std.specs.Float.Ieee.{add, mul, neg, lt, div, of_bits, to_unsigned}
 use Rattle.floats.specs.Known.{f32}
 use Rattle.records_line.specs.Text.{glyph, digits, places_up_to, decimal}
 use Rattle.assoc_boxes.specs.Overlap.{ratio}
 use Rattle.boost_tracker_fate.specs.declared.kinds.Fate.{Fate}
 use Rattle.boost_tracker_fate.specs.declared.kinds.Fate.TheVariants.{Matched, Started, UnderThreshold, Rejected}
-use Rattle.boost_tracker_fate.specs.declared.kinds.Partner.{Partner}
 use Rattle.boost_tracker_fate.specs.declared.kinds.Explanation.{Explanation}
 use Rattle.why_words.specs.Words.{ascii, whole, value_of, fraction, fixed, number, head, overlap_text, matched_text, started_text, rejected_text, scores_text, explanation_line, no_box_line}
 

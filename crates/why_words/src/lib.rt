@@ -1,4 +1,6 @@
 // What is printed of a box, in words and numbers: the line of an explanation, and that a frame has no such box.
+#![tactic(auto)]
+
 mod lines;
 mod puts;
 mod value;

@@ -13,7 +13,7 @@ pub(crate) fn put_word(text: &mut [u8], at: usize, word: &[u8]) -> usize
     ensures { Puts (length word.now) at word.now text.old result text.new }
 {
     let end = at + word.len();
-    bytes::copy(word, &mut text[at..end]);
+    text[at..end].copy_from_slice(word);
     end
 }
 

@@ -1,9 +1,0 @@
--- `shape::exponent_v2` meets its contract: the definition's operations in its order. Assumes nothing.
-use Rattle.assoc_boxes.proofs.shape.exponent_v2.Statement.{statement}
-use Rattle.assoc_boxes.proofs.shape.exponent_v2.Tie as tie
-
-returns : tie.Need-returns
-returns c = cc
-
-pub exponent-v2-spec : {M : Type 1} → statement M
-exponent-v2-spec = tie.close (tie.spec (λ c κs. tt) (λ c κs. tt) (λ c κs. tt) (λ c κs. tt) returns)

@@ -1,0 +1,14 @@
+-- `exp_rows` meets its contract. The loop's invariant: the first i rows are stored, the next starts at `at`, and the other cells are as they were. The measure is the number of rows left.
+-- Assumes nothing.
+use Prim.Native.Nat.{◌-◌}
+use lib.Ieee.{nan}
+use Rattle.laws.specs.Tab.{tab}
+use Rattle.laws.specs.Grid.{Rowing, cell_at}
+use Rattle.assoc_mahalanobis.specs.Private.{exp_of}
+use Rattle.assoc_mahalanobis.proofs.exp_rows.Given as goal
+
+abbrev pub invariant-loop-i : goal.invariant-loop-i
+invariant-loop-i l = Rowing (λ k. tab (λ j. exp_of (cell_at nan l.tracks l.initial.cells k j) l.softmax_temp) l.tracks) l.boxes l.tracks l.initial.cells l.i l.at l.cells
+
+abbrev pub decreases-loop-i : goal.decreases-loop-i
+decreases-loop-i l = l.boxes - l.i

@@ -1,0 +1,16 @@
+-- `matching::clear` meets its contract. The loop's invariant: the cells before `i` are zero. The measure is what is left of the slice. Assumes nothing.
+use Rattle.std.proofs.Common.{refl, le_refl, arith}
+use Rattle.laws.specs.Tab.{fill_start, fill_on, fill_whole}
+use Rattle.assoc_matching.proofs.matching.clear.Goals as goal
+
+pub loop-i-init : goal.loop-i-init
+loop-i-init c = fill_start _ _ _
+
+pub loop-i-preserved : goal.loop-i-preserved
+loop-i-preserved c = fill_on _ _ _ c.loop-i.invariant (omega (arith, c.loop-i-test.true, c.loop-i.invariant.same)) (le_refl _) refl
+
+pub shape_of-work : goal.shape_of-work
+shape_of-work c = c.loop-i.invariant.same
+
+pub returns : goal.returns
+returns c = fill_whole _ _ _ c.loop-i.invariant (omega (arith, c.loop-i-test.false, c.loop-i.invariant.same)) refl

@@ -1,0 +1,11 @@
+-- `matching::clear` meets its contract. The loop's invariant: the cells before `i` are zero. The measure is what is left of the slice. Assumes nothing.
+use Rattle.std.proofs.Common.{◌-◌, length}
+use lib.Ieee.{binary64, of_bits}
+use Rattle.laws.specs.Tab.{Filling}
+use Rattle.assoc_matching.proofs.matching.clear.Given as goal
+
+abbrev pub invariant-loop-i : goal.invariant-loop-i
+invariant-loop-i l = Filling (λ k. of_bits binary64 0) l.initial.work (length l.initial.work) l.i l.work
+
+abbrev pub decreases-loop-i : goal.decreases-loop-i
+decreases-loop-i l = length l.initial.work - l.i

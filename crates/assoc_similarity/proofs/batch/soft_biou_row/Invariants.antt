@@ -1,0 +1,14 @@
+-- `batch::soft_biou_row` meets its contract. The loop's invariant: the first j cells are stored, and the others as they were. The measure is what is left of the row.
+-- Assumes nothing.
+use Prim.Native.Nat.{◌-◌}
+use lib.ListN.{length, get_or}
+use Rattle.laws.specs.Tab.{Filling}
+use Rattle.floats.specs.Single.{plus_zero}
+use Rattle.assoc_similarity.specs.Overlap.{box_at, soft_biou}
+use Rattle.assoc_similarity.proofs.batch.soft_biou_row.Given as goal
+
+abbrev pub invariant-loop-j : goal.invariant-loop-j
+invariant-loop-j l = Filling (λ k. soft_biou l.det (box_at l.corners k) (get_or l.confidences k plus_zero)) l.initial.cells (length l.initial.cells) l.j l.cells
+
+abbrev pub decreases-loop-j : goal.decreases-loop-j
+decreases-loop-j l = length l.initial.cells - l.j

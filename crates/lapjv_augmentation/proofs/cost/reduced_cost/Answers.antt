@@ -1,0 +1,17 @@
+-- `reduced_cost` meets its contract. Assumes nothing.
+use native.Mathlib.Omega.{arith}
+use Rattle.lapjv_definition.proofs.CostLaws.{in-square, square-small}
+use Rattle.lapjv_augmentation.proofs.cost.reduced_cost.Goals as goal
+
+pub overflow_mul-result : goal.overflow_mul-result
+overflow_mul-result c = omega (arith, in-square c.args.n c.args.i c.args.j c.requires.2 c.requires.3, square-small c.args.n c.requires.0.small)
+
+pub overflow_add-result : goal.overflow_add-result
+overflow_add-result c = omega (arith, in-square c.args.n c.args.i c.args.j c.requires.2 c.requires.3, square-small c.args.n c.requires.0.small)
+
+pub offset_bounds-cost-i : goal.offset_bounds-cost-i
+offset_bounds-cost-i c = omega (arith, in-square c.args.n c.args.i c.args.j c.requires.2 c.requires.3, square-small c.args.n c.requires.0.small)
+
+pub bounds-cost-i : goal.bounds-cost-i
+bounds-cost-i c =
+    omega (arith, in-square c.args.n c.args.i c.args.j c.requires.2 c.requires.3, c.requires.0.whole)

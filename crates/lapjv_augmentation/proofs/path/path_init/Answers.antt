@@ -1,0 +1,22 @@
+-- `path_init` meets its contract. The invariant: the first i entries of each list are stored. Assumes nothing.
+use mathlib.Core.Path.{refl}
+use native.Mathlib.Omega.{arith}
+use Rattle.laws.specs.Tab.{fill_start, fill_on, fill_whole}
+use Rattle.lapjv_augmentation.proofs.path.path_init.Goals as goal
+
+pub loop-i-init : goal.loop-i-init
+loop-i-init c = (fill_start _ _ _, fill_start _ _ _, fill_start _ _ _)
+
+pub loop-i-preserved : goal.loop-i-preserved
+loop-i-preserved c =
+    let l = c.loop-i in
+    let h = c.loop-i-test.true in
+    let q = c.requires in
+    (fill_on _ _ _ l.invariant.0 h (omega (arith, q.3)) (rw c.reduced_cost-c.ensures), fill_on _ _ _ l.invariant.1 h (omega (arith, q.4)) refl, fill_on _ _ _ l.invariant.2 h (omega (arith, q.5)) refl)
+
+pub returns : goal.returns
+returns c =
+    let l = c.loop-i in
+    let q = c.requires in
+    let h = c.loop-i-test.false in
+    (fill_whole _ _ _ l.invariant.0 h q.3, fill_whole _ _ _ l.invariant.1 h q.4, fill_whole _ _ _ l.invariant.2 h q.5)

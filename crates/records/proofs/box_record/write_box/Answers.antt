@@ -1,0 +1,11 @@
+-- `records::box_record::write_box` meets its contract. Assumes nothing.
+use borrow.Author.Tests.{lt-ltb, le-ltb}
+use Rattle.records.proofs.Laws.Lengths.{length-box}
+use Rattle.records.proofs.Puts.{writes, no_write}
+use Rattle.records.proofs.box_record.write_box.Goals as goal
+
+pub returns-then-k-out : goal.returns-then-k-out
+returns-then-k-out c = writes _ (lt-ltb _ _ c.if-k-out.true) (length-box _) c.put_box.ensures
+
+pub returns : goal.returns
+returns c = no_write _ _ _ _ (le-ltb _ _ c.if-k-out.false)

@@ -1,0 +1,11 @@
+-- `feed::of_next` meets its contract: each arm is the definition's case. Assumes nothing.
+use Rattle.trackbox_feed.proofs.feed.of_next.Goals as goal
+
+pub returns-in-Same : goal.returns-in-Same
+returns-in-Same c = rw c.in-Same.is
+
+pub returns-in-Later : goal.returns-in-Later
+returns-in-Later c = rw c.in-Later.is
+
+pub returns-in-Refused : goal.returns-in-Refused
+returns-in-Refused c = rw c.in-Refused.is

@@ -1,0 +1,106 @@
+-- `turns::run` is safe and ends, and no more is left than there was. The loop's invariant: the arrays keep their lengths, what was read and what waits lies in them, and what was handed to the output and
+-- waits for it is what trackbox prints of the bytes that were read (specs/Printed.antt). The measure is the count of turns that is left. Assumes nothing.
+use mathlib.Core.Path.{refl, sym, subst, ◌∙◌}
+use Prim.Native.Nat.{ℕ}
+use native.Mathlib.Omega.{arith}
+use lib.ListN.{replicate, length-replicate}
+use lib.Ieee.{binary32, binary64, of_bits}
+use Rattle.trackbox_progress.specs.declared.progress.Progress.{Progress}
+use Rattle.trackbox_feed.specs.Trackbox.{lent_floats, lent_counters, lent_labels, lent_boxes, lent_box_labels, lent_output, lent_doubles, lent_singles}
+use Rattle.trackbox_io.specs.Turn.{text_bytes, input_bytes, Arrays, arrays, Sizes}
+use Rattle.trackbox_io.proofs.Filling.{start_along}
+use Rattle.program_io.proofs.Laws.{turns-left, goes_on}
+use Rattle.trackbox_io.proofs.TurnLaws.{Running, runs_on, ends-leaves}
+use Rattle.trackbox_io.proofs.turns.run.Goals as goal
+
+abbrev zeros : Arrays
+zeros =
+    arrays (replicate input_bytes 0) (replicate text_bytes 0) (replicate lent_floats (of_bits binary32 0)) (replicate lent_counters 0) (replicate lent_labels 0) (replicate lent_boxes (of_bits binary32 0))
+    (replicate lent_box_labels 0) (replicate lent_output 0) (replicate lent_doubles (of_bits binary64 0)) (replicate lent_singles (of_bits binary32 0))
+
+zeros-sized : Sizes zeros
+zeros-sized = record {
+  input = length-replicate {A = ℕ} input_bytes 0;
+  text = length-replicate {A = ℕ} text_bytes 0;
+  floats = length-replicate lent_floats (of_bits binary32 0);
+  counters = length-replicate {A = ℕ} lent_counters 0;
+  labels = length-replicate {A = ℕ} lent_labels 0;
+  boxes = length-replicate lent_boxes (of_bits binary32 0);
+  box_labels = length-replicate {A = ℕ} lent_box_labels 0;
+  output = length-replicate {A = ℕ} lent_output 0;
+  doubles = length-replicate lent_doubles (of_bits binary64 0);
+  singles = length-replicate lent_singles (of_bits binary32 0);
+}
+
+pub loop-turns-init : goal.loop-turns-init
+loop-turns-init c =
+    subst (λ (p : Progress). Running p zeros) (sym c.start-now.ensures) (record {
+      sizes = zeros-sized;
+      stands = record { used = omega arith; got = omega arith };
+      along = start_along c.args.bytes zeros refl zeros-sized.boxes zeros-sized.box_labels;
+    })
+
+pub overflow_sub-turns : goal.overflow_sub-turns
+overflow_sub-turns c = omega (arith, turns-left c.loop-turns.turns c.loop-turns.now.going c.loop-turns-test.true)
+
+pub loop-turns-smaller : goal.loop-turns-smaller
+loop-turns-smaller c = omega (arith, turns-left c.loop-turns.turns c.loop-turns.now.going c.loop-turns-test.true)
+
+pub loop-turns-preserved : goal.loop-turns-preserved
+loop-turns-preserved c =
+    let loop = c.loop-turns in
+    let size = loop.invariant.sizes in
+    runs_on _ _ _ _ (record {
+      input = c.turn-now.auto.input ∙ size.input;
+      text = c.turn-now.auto.text ∙ size.text;
+      floats = c.turn-now.auto.floats ∙ size.floats;
+      counters = c.turn-now.auto.counters ∙ size.counters;
+      labels = c.turn-now.auto.labels ∙ size.labels;
+      boxes = c.turn-now.auto.boxes ∙ size.boxes;
+      box_labels = c.turn-now.auto.box_labels ∙ size.box_labels;
+      output = c.turn-now.auto.out ∙ size.output;
+      doubles = c.turn-now.auto.work64 ∙ size.doubles;
+      singles = c.turn-now.auto.work32 ∙ size.singles;
+    }) (goes_on loop.turns loop.now.going c.loop-turns-test.true) loop.invariant c.turn-now.ensures
+
+pub slice_bounds-turn-end : goal.slice_bounds-turn-end
+slice_bounds-turn-end c = sym c.loop-turns.invariant.sizes.input
+
+pub slice_bounds-turn-end-in-loop-turns : goal.slice_bounds-turn-end-in-loop-turns
+slice_bounds-turn-end-in-loop-turns c = sym c.loop-turns.invariant.sizes.text
+
+pub slice_bounds-turn-end-in-loop-turns-2 : goal.slice_bounds-turn-end-in-loop-turns-2
+slice_bounds-turn-end-in-loop-turns-2 c = sym c.loop-turns.invariant.sizes.floats
+
+pub slice_bounds-turn-end-in-loop-turns-3 : goal.slice_bounds-turn-end-in-loop-turns-3
+slice_bounds-turn-end-in-loop-turns-3 c = sym c.loop-turns.invariant.sizes.counters
+
+pub slice_bounds-turn-end-in-loop-turns-4 : goal.slice_bounds-turn-end-in-loop-turns-4
+slice_bounds-turn-end-in-loop-turns-4 c = sym c.loop-turns.invariant.sizes.labels
+
+pub slice_bounds-turn-end-in-loop-turns-5 : goal.slice_bounds-turn-end-in-loop-turns-5
+slice_bounds-turn-end-in-loop-turns-5 c = sym c.loop-turns.invariant.sizes.boxes
+
+pub slice_bounds-turn-end-in-loop-turns-6 : goal.slice_bounds-turn-end-in-loop-turns-6
+slice_bounds-turn-end-in-loop-turns-6 c = sym c.loop-turns.invariant.sizes.box_labels
+
+pub slice_bounds-turn-end-in-loop-turns-7 : goal.slice_bounds-turn-end-in-loop-turns-7
+slice_bounds-turn-end-in-loop-turns-7 c = sym c.loop-turns.invariant.sizes.output
+
+pub slice_bounds-turn-end-in-loop-turns-8 : goal.slice_bounds-turn-end-in-loop-turns-8
+slice_bounds-turn-end-in-loop-turns-8 c = sym c.loop-turns.invariant.sizes.doubles
+
+pub slice_bounds-turn-end-in-loop-turns-9 : goal.slice_bounds-turn-end-in-loop-turns-9
+slice_bounds-turn-end-in-loop-turns-9 c = sym c.loop-turns.invariant.sizes.singles
+
+pub turn-now-requires : goal.turn-now-requires
+turn-now-requires c = record { stands = c.loop-turns.invariant.stands; sizes = c.loop-turns.invariant.sizes }
+
+pub slice_bounds-end-end : goal.slice_bounds-end-end
+slice_bounds-end-end c = sym c.loop-turns.invariant.sizes.text
+
+pub end-requires : goal.end-requires
+end-requires c = omega (arith, c.loop-turns.invariant.stands.used, c.loop-turns.invariant.sizes.text)
+
+pub returns : goal.returns
+returns c = ends-leaves c.loop-turns.now _ c.end.result c.end.ensures

@@ -1,0 +1,12 @@
+-- `vectors::input::words` meets its contract. The loop's invariant: before k, what is behind those given is `rest`. The measure is what is left of the length. Assumes nothing.
+use mathlib.Core.Path.{◌≡◌}
+use Prim.Native.Nat.{◌-◌}
+use lib.ListN.{length}
+use Rattle.vectors.proofs.Reading.{Reading}
+use Rattle.vectors.proofs.input.words.Given as goal
+
+abbrev pub invariant-loop-k : goal.invariant-loop-k
+invariant-loop-k l = Reading 0 l.rest l.given l.initial.out l.k l.out × (l.k-end ≡ length l.initial.out)
+
+abbrev pub decreases-loop-k : goal.decreases-loop-k
+decreases-loop-k l = l.k-end - l.k

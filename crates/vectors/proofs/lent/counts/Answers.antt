@@ -1,0 +1,12 @@
+-- `vectors::lent::counts` meets its contract: what is lent are the first elements, and no more than there are. Assumes nothing.
+use mathlib.Core.Path.{sym}
+use native.Mathlib.Omega.{arith}
+use lib.Seq.{length-take-le}
+use Rattle.vectors.proofs.Parts.{first}
+use Rattle.vectors.proofs.lent.counts.Goals as goal
+
+pub slice_bounds-result-end : goal.slice_bounds-result-end
+slice_bounds-result-end c = sym (length-take-le _ _ (omega arith))
+
+pub returns : goal.returns
+returns c = first _ _ _ c.at_most-end.ensures.value

@@ -1,0 +1,11 @@
+-- `vectors::line::Line::float` meets its contract: a space, and as many digits as the number has. Assumes nothing.
+use mathlib.Core.Path.{ap, ◌∙◌}
+use native.Mathlib.Omega.{arith}
+use Rattle.vectors.specs.Line.{spelt}
+use Rattle.vectors.proofs.Printing.{spelling}
+use Rattle.vectors.proofs.line.Line.float.Goals as goal
+
+pub returns : goal.returns
+returns c =
+    spelling 16 8 _ _ _ _ _ _ (omega arith) c.hex-k.ensures.len (omega arith) (omega arith) c.hex-k.ensures.digits c.text.ensures c.text-2.ensures
+    ∙ ap (spelt 16 8 _) c.word.ensures

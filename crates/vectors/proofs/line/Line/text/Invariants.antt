@@ -1,0 +1,11 @@
+-- `vectors::line::Line::text` meets its contract. The loop's invariant: the first k bytes are in the line. The measure is the number of bytes left. Assumes nothing.
+use Prim.Native.Nat.{◌-◌}
+use lib.ListN.{length}
+use Rattle.vectors.proofs.Printing.{Texting}
+use Rattle.vectors.proofs.line.Line.text.Given as goal
+
+abbrev pub invariant-loop-k : goal.invariant-loop-k
+invariant-loop-k l = Texting l.s l.initial.line l.k l.line
+
+abbrev pub decreases-loop-k : goal.decreases-loop-k
+decreases-loop-k l = length l.s - l.k

@@ -1,9 +1,0 @@
--- `vectors_digest::digest::double` meets its contract: what is joined is the element's word. Assumes nothing.
-use mathlib.Core.Path.{ap, ◌∙◌}
-use borrow.Author.Rules.{rules}
-use Rattle.vectors_digest.specs.Digest.{joined}
-use Rattle.vectors_digest.proofs.digest.double.Statement.{statement}
-use Rattle.vectors_digest.proofs.digest.double.Tie as tie
-
-pub double-spec : {M : Type 1} → statement M
-double-spec = tie.close (tie.spec (λ c κs. search rules) (λ c κs. search rules) (λ c. c.join.ensures ∙ ap (joined c.before.before.args.sum) c.before.wide_word.ensures))
