@@ -3,13 +3,13 @@ PREFIX = /usr/local
 INSTALL = install
 
 # Already built ones are used where the environment names them.
-BEDSIDE_ARCHIVE ?= target/staticlib/libbedside.a
-BEDSIDE_TRACKBOX ?= target/bin/trackbox
-BEDSIDE_WHY ?= target/bin/why
-BEDSIDE_MOTBOX ?= target/bin/motbox
+BEDSIDE_ARCHIVE ?= crates/bedside/out/libbedside.a
+BEDSIDE_TRACKBOX ?= crates/trackbox/out/trackbox
+BEDSIDE_WHY ?= crates/why/out/why
+BEDSIDE_MOTBOX ?= crates/motbox/out/motbox
 export BEDSIDE_ARCHIVE BEDSIDE_TRACKBOX BEDSIDE_WHY BEDSIDE_MOTBOX
 
-SOURCES = crates.txt $(shell find crates -type f)
+SOURCES = crates.txt $(shell find crates -name out -prune -o -type f -print)
 VERSION = $(shell sed -n 's/^.define BEDSIDE_VERSION_STRING "\(.*\)"$$/\1/p' include/bedside.h)
 
 ROOT = $(abspath $(PREFIX))
@@ -24,13 +24,14 @@ DOCUMENTS = $(INTO)/share/doc/bedside
 
 all: $(BEDSIDE_ARCHIVE) $(BEDSIDE_TRACKBOX) $(BEDSIDE_WHY) $(BEDSIDE_MOTBOX)
 
-# rt proves what is not proved yet, then builds.
-target/staticlib/libbedside.a: $(SOURCES)
-	rt staticlib bedside
+# rt proves what is not proved yet, then builds. A program is built by running it: without input and arguments it ends at once,
+# and why says its usage.
+crates/bedside/out/libbedside.a: $(SOURCES)
+	cd crates/bedside && rt lib --cpu=x86-64
 	touch $@
 
-target/bin/trackbox target/bin/why target/bin/motbox: $(SOURCES)
-	rt check $(@F)
+crates/trackbox/out/trackbox crates/why/out/why crates/motbox/out/motbox: $(SOURCES)
+	oracle/built $(@F) >/dev/null
 	touch $@
 
 install: all
@@ -64,6 +65,6 @@ help:
 	@echo
 	@echo 'BEDSIDE_ARCHIVE, BEDSIDE_TRACKBOX, BEDSIDE_WHY and BEDSIDE_MOTBOX in the environment name a'
 	@echo 'libbedside.a and programs that are built already; they are used in the place of new ones.'
-	@echo 'rt ci proves and tests everything from nothing.'
+	@echo 'rt ci proves what it has not passed here before, and tests everything.'
 
 .PHONY: all install uninstall check help

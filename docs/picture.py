@@ -1,6 +1,6 @@
 """Draws docs/picture.svg: boxes of four frames of the night visits, and the tracks that trackbox makes of them.
 
-    target/bin/trackbox < samples/visits.boxes | python3 docs/picture.py > docs/picture.svg
+    crates/trackbox/out/trackbox < samples/visits.boxes | python3 docs/picture.py > docs/picture.svg
 
 Every number that it writes is whole. The people are those of samples/README.md.
 """

@@ -1,5 +1,6 @@
 //! Finds libbedside.a and has it linked: the file that BEDSIDE_ARCHIVE names, else the one that is installed
-//! where pkg-config says, else the one that `rt staticlib bedside` wrote in this repository.
+//! where pkg-config says, else the one that `rt lib --cpu=x86-64` wrote in
+//! crates/bedside of this repository.
 
 use std::env;
 use std::path::{Path, PathBuf};
@@ -34,13 +35,13 @@ fn archive() -> Result<PathBuf, String> {
     if let Some(path) = installed() {
         return Ok(path);
     }
-    let built = package.join("../target/staticlib").join(ARCHIVE);
+    let built = package.join("../crates/bedside/out").join(ARCHIVE);
     if built.is_file() {
         return Ok(built);
     }
     Err(format!(
         "{ARCHIVE} is not found. BEDSIDE_ARCHIVE is not set, pkg-config knows no installed bedside, and {} is \
-         no file. `rt staticlib bedside`, run in the repository, writes it.",
+         no file. `rt lib --cpu=x86-64`, run in crates/bedside of the repository, writes it.",
         built.display()
     ))
 }

@@ -29,8 +29,8 @@
 //!
 //! The build script links the archive that the environment variable `BEDSIDE_ARCHIVE` names; without it the
 //! installed one that pkg-config knows as `bedside`; without that the repository's own
-//! `target/staticlib/libbedside.a`, which `rt staticlib bedside` writes. The archive is for x86-64 Linux. The
-//! crate uses no other crate, and of the standard library `core` and `alloc` alone.
+//! `crates/bedside/out/libbedside.a`, which `rt lib --cpu=x86-64` writes in crates/bedside. The archive is for x86-64
+//! Linux. The crate uses no other crate, and of the standard library `core` and `alloc` alone.
 //!
 //! Results rest on the floating-point environment that Rust code rests on too: rounding to the nearest, and
 //! nothing flushed to zero. C code of the same process that is linked with `-ffast-math` changes it.
