@@ -19,8 +19,8 @@ use Rattle.labels.specs.Label.{alike, where_alike}
 use Rattle.floats.specs.Single.{one, plus_zero}
 use Rattle.assoc_cost.specs.declared.cost.AssociateParams.{AssociateParams}
 use Rattle.refusals.specs.declared.refusal.Refusal.{Refusal}
-use Rattle.refusals.specs.declared.refusal.Verdict.{Verdict}
-use Rattle.refusals.specs.declared.refusal.Verdict.TheVariants.{Accepted, Refused}
+use Rattle.std.specs.Bool.{⊤}
+use Rattle.std.proofs.Common.{Result, Ok, Err}
 use Rattle.assoc_similarity.specs.Sizes.{of_corners, of_cells, of_distances, Ready, after}
 use Rattle.assoc_similarity.specs.Overlap.{box_at, iou_batch}
 use Rattle.assoc_similarity.specs.Mahalanobis.{mh_dist_similarity}
@@ -41,24 +41,24 @@ use Rattle.assoc.specs.Private.{Likened, marked_ious, Halves, with_floats}
 -- ---- the matrices: the crate below accepts what is lent
 
 module _ {n m : ℕ} (few-rows : n ≤ 255) (few-cols : m ≤ 255) where
-  pub corners-accepted : {detections corners out : ℕ} → detections ≡ n * 4 → corners ≡ m * 4 → n * m ≤ out → of_corners n m detections corners out ≡ Accepted
+  pub corners-accepted : {detections corners out : ℕ} → detections ≡ n * 4 → corners ≡ m * 4 → n * m ≤ out → of_corners n m detections corners out ≡ Ok tt
   corners-accepted {detections} {corners} {out} e f r = rw (le-ltb 255 n few-rows, le-ltb 255 m few-cols, eq-eqb detections (n * 4) e, eq-eqb corners (m * 4) f, le-ltb out (n * m) r)
 
-  pub cells-accepted : {cells : ℕ} → n * m ≤ cells → of_cells n m cells ≡ Accepted
+  pub cells-accepted : {cells : ℕ} → n * m ≤ cells → of_cells n m cells ≡ Ok tt
   cells-accepted {cells} r = rw (le-ltb 255 n few-rows, le-ltb 255 m few-cols, le-ltb cells (n * m) r)
 
-  pub distances_accepted : {distance out : ℕ} → distance ≡ n * m → n * m ≤ out → of_distances n m distance out ≡ Accepted
+  pub distances_accepted : {distance out : ℕ} → distance ≡ n * m → n * m ≤ out → of_distances n m distance out ≡ Ok tt
   distances_accepted {distance} {out} e r = rw (le-ltb 255 n few-rows, le-ltb 255 m few-cols, eq-eqb distance (n * m) e, le-ltb out (n * m) r)
 
 -- so that none of their refusals is met
-pub not_refused : {v : Verdict} {why : Refusal} → v ≡ Accepted → v ≡ Refused why → ⊥
+pub not_refused : {v : Result ⊤ Refusal} {why : Refusal} → v ≡ Ok tt → v ≡ Err why → ⊥
 not_refused e f = let z : ◌≡◌ {A = ℕ} 0 1 = cc in omega arith
 
 -- what an accepted call leaves in a part that it fills
-pub stored : (f : ℕ → ℕ → Float) (n m : ℕ) (part : List Float) {r : Verdict} {vs : List Float} → r ≡ Accepted → vs ≡ after r f n m part → vs ≡ grid f n m part
+pub stored : (f : ℕ → ℕ → Float) (n m : ℕ) (part : List Float) {r : Result ⊤ Refusal} {vs : List Float} → r ≡ Ok tt → vs ≡ after r f n m part → vs ≡ grid f n m part
 stored f n m part {r} {vs} e h = rw e at h
 
-pub likened : (has : Bool) (n m : ℕ) (distance l : List Float) {r : Verdict} {vs : List Float} → n * m ≤ length l → r ≡ Accepted → vs ≡ after r (mh_dist_similarity distance one n m) n m (take (n * m) l)
+pub likened : (has : Bool) (n m : ℕ) (distance l : List Float) {r : Result ⊤ Refusal} {vs : List Float} → n * m ≤ length l → r ≡ Ok tt → vs ≡ after r (mh_dist_similarity distance one n m) n m (take (n * m) l)
     → Likened has n m distance (vs ++ drop (n * m) l)
 likened has n m distance l {r} {vs} h e f =
     let part : List Float = take (n * m) l in

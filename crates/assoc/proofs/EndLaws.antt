@@ -11,11 +11,10 @@ use Rattle.labels.specs.Label.{same_label, alike, where_alike}
 use Rattle.floats.specs.Single.{plus_zero}
 use Rattle.assoc_cost.specs.declared.cost.AssociateParams.{AssociateParams}
 use Rattle.refusals.specs.declared.refusal.Refusal.{Refusal}
-use Rattle.refusals.specs.declared.refusal.Verdict.{Verdict}
-use Rattle.refusals.specs.declared.refusal.Verdict.TheVariants as verdict
+use Rattle.std.specs.Bool.{⊤}
+use Rattle.std.proofs.Common.{Result, Ok, Err}
 use Rattle.assoc_similarity.specs.Overlap.{iou_batch}
 use Rattle.assoc_cost.specs.Cost.{cost_matrix}
-use Rattle.assoc_assignment.specs.declared.assignment.AssignmentAnswer.TheVariants.{Assigned, Refused}
 use Rattle.assoc_assignment.specs.Assignment.{Assignment, linear_assignment}
 use Rattle.assoc_assignment.specs.Answers.{room_of, assignment_counts, call_with, assignment_verdict, assignment_call}
 use Rattle.assoc_assignment.specs.Answers as Assignments
@@ -37,14 +36,14 @@ pub paired_is : (params : AssociateParams) (boxes tracks : ℕ) (detections corn
     → with_floats (cleared cells)
     (assignment_call boxes tracks (marked_ious (alike same_label box_labels track_labels) boxes tracks detections corners)
     (costs (alike same_label box_labels track_labels) params boxes tracks detections corners track_confidence detection_confidence (cell_at nan tracks cells)) params.iou_threshold (lent_for l))
-    ≡ call_with (Assigned (assignment_counts (associate params boxes tracks detections corners distance track_confidence detection_confidence box_labels track_labels)))
+    ≡ call_with (Ok (assignment_counts (associate params boxes tracks detections corners distance track_confidence detection_confidence box_labels track_labels)))
     (lent_after (associate params boxes tracks detections corners distance track_confidence detection_confidence box_labels track_labels) l)
 unfolding assignment_call
 paired_is params boxes tracks detections corners distance track_confidence detection_confidence box_labels track_labels l {cells} ready likened same =
     let like : ℕ → ℕ → Bool = alike same_label box_labels track_labels in
     let iou : List Float = marked_ious like boxes tracks detections corners in
     let cost : List Float = costs like params boxes tracks detections corners track_confidence detection_confidence (cell_at nan tracks cells) in
-    let v : assignment_verdict boxes tracks (length iou) (length cost) (room_of l.lists) (length l.work64) ≡ verdict.Accepted =
+    let v : assignment_verdict boxes tracks (length iou) (length cost) (room_of l.lists) (length l.work64) ≡ Ok tt =
     rw (
       length_matrix (where_alike like (iou_batch detections corners) nan) boxes tracks,
       length_matrix (where_alike like (cost_matrix params detections corners track_confidence detection_confidence (cell_at nan tracks cells)) plus_zero) boxes tracks,
@@ -55,7 +54,7 @@ paired_is params boxes tracks detections corners distance track_confidence detec
     rw (v, a, z)
 
 module _ (params : AssociateParams) (boxes tracks : ℕ) (detections corners mahalanobis track_confidence detection_confidence : List Float) (box_labels track_labels : List ℕ) (l : Lent) where
-  abbrev asked : Verdict
+  abbrev asked : Result ⊤ Refusal
   asked =
       associate_verdict params boxes tracks (length detections) (length corners) (length mahalanobis) (length track_confidence) (length detection_confidence) box_labels track_labels
       (room_of l.lists) (length l.work64) (length l.work32)
@@ -63,29 +62,29 @@ module _ (params : AssociateParams) (boxes tracks : ℕ) (detections corners mah
   abbrev value : Assignment
   value = associate params boxes tracks detections corners mahalanobis track_confidence detection_confidence box_labels track_labels
 
-  pub associate-refused : {v : Verdict} {why : Refusal} → v ≡ asked → v ≡ verdict.Refused why
-      → call_with (Refused why) l ≡ associate_call params boxes tracks detections corners mahalanobis track_confidence detection_confidence box_labels track_labels l
+  pub associate-refused : {v : Result ⊤ Refusal} {why : Refusal} → v ≡ asked → v ≡ Err why
+      → call_with (Err why) l ≡ associate_call params boxes tracks detections corners mahalanobis track_confidence detection_confidence box_labels track_labels l
   unfolding associate_call
   associate-refused e f = rw (sym e ∙ f)
 
-  pub associate-accepted : asked ≡ verdict.Accepted
-      → call_with (Assigned (assignment_counts value)) (lent_after value l) ≡ associate_call params boxes tracks detections corners mahalanobis track_confidence detection_confidence box_labels track_labels l
+  pub associate-accepted : asked ≡ Ok tt
+      → call_with (Ok (assignment_counts value)) (lent_after value l) ≡ associate_call params boxes tracks detections corners mahalanobis track_confidence detection_confidence box_labels track_labels l
   unfolding associate_call
   associate-accepted e = rw e
 
 module _ (params : AssociateParams) (boxes tracks : ℕ) (detections corners track_confidence detection_confidence : List Float) (box_labels track_labels : List ℕ) (l : Lent) where
-  abbrev asked_within : Verdict
+  abbrev asked_within : Result ⊤ Refusal
   asked_within = within_verdict params boxes tracks (length detections) (length corners) (length track_confidence) (length detection_confidence) (room_of l.lists) (length l.work64) (length l.work32)
 
   abbrev value-within : Assignment
   value-within = associate params boxes tracks detections corners (take (boxes * tracks) l.work32) track_confidence detection_confidence box_labels track_labels
 
-  pub within-refused : {v : Verdict} {why : Refusal} → v ≡ asked_within → v ≡ verdict.Refused why
-      → call_with (Refused why) l ≡ within_call params boxes tracks detections corners track_confidence detection_confidence box_labels track_labels l
+  pub within-refused : {v : Result ⊤ Refusal} {why : Refusal} → v ≡ asked_within → v ≡ Err why
+      → call_with (Err why) l ≡ within_call params boxes tracks detections corners track_confidence detection_confidence box_labels track_labels l
   unfolding within_call
   within-refused e f = rw (sym e ∙ f)
 
-  pub within-accepted : asked_within ≡ verdict.Accepted
-      → call_with (Assigned (assignment_counts value-within)) (lent_after value-within l) ≡ within_call params boxes tracks detections corners track_confidence detection_confidence box_labels track_labels l
+  pub within-accepted : asked_within ≡ Ok tt
+      → call_with (Ok (assignment_counts value-within)) (lent_after value-within l) ≡ within_call params boxes tracks detections corners track_confidence detection_confidence box_labels track_labels l
   unfolding within_call
   within-accepted e = rw e

@@ -12,7 +12,7 @@ use Rattle.laws.specs.Grid.{grid, grid-at}
 use Rattle.labels.specs.Label.{label_at, same_label, alike, where_alike}
 use Rattle.floats.specs.Single.{one, plus_zero}
 use Rattle.assoc_cost.specs.declared.cost.AssociateParams.{AssociateParams}
-use Rattle.refusals.specs.declared.refusal.Verdict.TheVariants.{Accepted}
+use Rattle.std.proofs.Common.{Ok}
 use Rattle.assoc_similarity.specs.Overlap.{box_at, overlap, iou_batch}
 use Rattle.assoc_similarity.specs.Mahalanobis.{mh_dist_similarity}
 use Rattle.refusals.proofs.Laws.{accepted_of}
@@ -60,7 +60,7 @@ module _ (params : AssociateParams) (boxes tracks : ℕ) (detections corners mah
   -- its number is 0 only where no condition of a refusal holds
   pub associate-passes : (associate_call params boxes tracks detections corners mahalanobis track_confidence detection_confidence box_labels track_labels l).number ≡ 0
       → associate_verdict params boxes tracks (length detections) (length corners) (length mahalanobis) (length track_confidence) (length detection_confidence) box_labels track_labels
-      (room_of l.lists) (length l.work64) (length l.work32) ≡ Accepted
+      (room_of l.lists) (length l.work64) (length l.work32) ≡ Ok tt
   unfolding associate_call
   associate-passes e = accepted_of _ e
 
@@ -73,7 +73,7 @@ module _ (params : AssociateParams) (boxes tracks : ℕ) (detections corners mah
 
 module _ (params : AssociateParams) (boxes tracks : ℕ) (detections corners track_confidence detection_confidence : List Float) (box_labels track_labels : List ℕ) (l : Lent) where
   pub within-passes : (within_call params boxes tracks detections corners track_confidence detection_confidence box_labels track_labels l).number ≡ 0
-      → within_verdict params boxes tracks (length detections) (length corners) (length track_confidence) (length detection_confidence) (room_of l.lists) (length l.work64) (length l.work32) ≡ Accepted
+      → within_verdict params boxes tracks (length detections) (length corners) (length track_confidence) (length detection_confidence) (room_of l.lists) (length l.work64) (length l.work32) ≡ Ok tt
   unfolding within_call
   within-passes e = accepted_of _ e
 
@@ -162,7 +162,7 @@ accounted_for params boxes tracks detections corners mahalanobis track_confidenc
     let a : Assignment = associate params boxes tracks detections corners mahalanobis track_confidence detection_confidence box_labels track_labels in
     let zero = sym (ap (λ (c : Call AssignmentCounts Lent). c.number) ends) ∙ accepted in
     let passes = associate-passes params boxes tracks detections corners mahalanobis track_confidence detection_confidence box_labels track_labels l zero in
-    let done : call_with r l' ≡ call_by Accepted (assignment_counts a) (lent_after a l) no_counts l = rw passes at ends in
+    let done : call_with r l' ≡ call_by (Ok tt) (assignment_counts a) (lent_after a l) no_counts l = rw passes at ends in
     let counts : assignment_values r ≡ assignment_counts a = ap (λ (c : Call AssignmentCounts Lent). c.counts) done in
     let left : l' ≡ lent_after a l = ap (λ (c : Call AssignmentCounts Lent). c.lent) done in
     let acc = associate_account params boxes tracks detections corners mahalanobis track_confidence detection_confidence box_labels track_labels l zero in

@@ -1,7 +1,7 @@
--- Document 02, N7, its first half: "Whenever associating is accepted, for any bit patterns, no two pairs share a box or a track, every pair's IoU is at least the threshold, and pairs with unmatched boxes hold
--- each box exactly once, and the same for tracks. .. No pair joins unequal labels." `accounted_for` of proofs/Theorem.antt proves it of every accepted call, and `associate-lists` of the definition.
+-- Whenever associating is accepted, for any bit patterns, no two pairs share a box or a track, every pair's IoU is at least the threshold, pairs with unmatched boxes hold
+-- each box exactly once, the same for tracks, and no pair joins unequal labels. `accounted_for` of proofs/Theorem.antt proves it of every accepted call, and `associate-lists` of the definition.
 -- A frame pairs by `associate_within`, whose contract cites the same definition: what is said of the definition is said of frames too.
-use Rattle.std.specs.Prelude.{◌≡◌, true, List, ◌++◌, ℕ, ◌≤◌, ◌<◌, ltb, Float, length, get_or, take}
+use Rattle.std.specs.Prelude.{Result, ◌≡◌, true, List, ◌++◌, ℕ, ◌≤◌, ◌<◌, ltb, Float, length, get_or, take}
 use Rattle.std.specs.Float.Ieee.{le}
 use Rattle.laws.specs.Count.{bit}
 use Rattle.laws.specs.Occurs.{occurs}
@@ -10,7 +10,7 @@ use Rattle.assoc_similarity.specs.Overlap.{iou_batch}
 use Rattle.assoc_matching.specs.Matching.{boxes_of, tracks_of}
 use Rattle.assoc_matching.specs.Account.{Distinct}
 use Rattle.assoc_assignment.specs.declared.assignment.AssignmentCounts.{AssignmentCounts}
-use Rattle.assoc_assignment.specs.declared.assignment.AssignmentAnswer.{AssignmentAnswer}
+use Rattle.refusals.specs.declared.refusal.Refusal.{Refusal}
 use Rattle.assoc_assignment.specs.Assignment.{Assignment}
 use Rattle.assoc_assignment.specs.Answers.{Lists, lists_with, assignment_number, assignment_values, call_with}
 use Rattle.assoc_cost.specs.declared.cost.AssociateParams.{AssociateParams}
@@ -45,7 +45,7 @@ written c l = lists_with (take c.pairs l.pair_boxes) (take c.pairs l.pair_tracks
 -- THE THEOREM, of every call of `associate` by its contract: what it answers, and what it leaves of what it was lent
 abbrev pub AccountedFor : Type 0
 AccountedFor =
-    (params : AssociateParams) (boxes tracks : ℕ) (detections corners mahalanobis track_confidence detection_confidence : List Float) (box_labels track_labels : List ℕ) (l l' : Lent) (r : AssignmentAnswer)
+    (params : AssociateParams) (boxes tracks : ℕ) (detections corners mahalanobis track_confidence detection_confidence : List Float) (box_labels track_labels : List ℕ) (l l' : Lent) (r : Result AssignmentCounts Refusal)
     → call_with r l' ≡ associate_call params boxes tracks detections corners mahalanobis track_confidence detection_confidence box_labels track_labels l → assignment_number r ≡ 0
     → Account params.iou_threshold boxes tracks detections corners box_labels track_labels (written (assignment_values r) l'.lists)
 

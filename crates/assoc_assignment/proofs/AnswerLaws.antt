@@ -8,12 +8,13 @@ use lib.Ieee.{Float}
 use lib.ListN.{length}
 use borrow.Author.Tests.{ltb-false}
 use Rattle.laws.specs.Tests.{or_none}
-use Rattle.refusals.specs.declared.refusal.Verdict.TheVariants.{Accepted}
+use Rattle.std.proofs.Common.{Ok}
 use Rattle.refusals.proofs.Laws.{passed, few-sides, same_size}
 use Rattle.assoc_matching.specs.Matching.{simple}
 use Rattle.assoc_matching.specs.Partners.{Sized, PartnerReady}
 use Rattle.assoc_matching.proofs.MatchLaws.{some-side}
-use Rattle.assoc_assignment.specs.Answers.{Room, assignment_short, assignment_verdict}
+use Rattle.assoc_assignment.specs.declared.assignment.Room.{Room}
+use Rattle.assoc_assignment.specs.Answers.{assignment_short, assignment_verdict}
 use Rattle.assoc_assignment.specs.Private.{ListRoom, AssignmentReady}
 
 -- room in the lists and in the work slice
@@ -34,7 +35,7 @@ roomy boxes tracks room work e =
     } in
     (lists, ltb-false work (n * n) r₁.1)
 
-pub assignment-ready : (boxes tracks ious costs : ℕ) (room : Room) (work : ℕ) → assignment_verdict boxes tracks ious costs room work ≡ Accepted → AssignmentReady boxes tracks ious costs room work
+pub assignment-ready : (boxes tracks ious costs : ℕ) (room : Room) (work : ℕ) → assignment_verdict boxes tracks ious costs room work ≡ Ok tt → AssignmentReady boxes tracks ious costs room work
 unfolding assignment_verdict
 assignment-ready boxes tracks ious costs room work e =
     let p = passed _ _ _ e in

@@ -5,23 +5,22 @@ use Prim.Native.Nat.{ℕ}
 use lib.Ieee.{Float}
 use lib.ListN.{length}
 use Rattle.refusals.specs.declared.refusal.Refusal.{Refusal}
-use Rattle.refusals.specs.declared.refusal.Verdict.{Verdict}
-use Rattle.refusals.specs.declared.refusal.Verdict.TheVariants as verdict
-use Rattle.assoc_assignment.specs.declared.assignment.AssignmentAnswer.TheVariants.{Assigned, Refused}
+use Rattle.std.specs.Bool.{⊤}
+use Rattle.std.proofs.Common.{Result, Ok, Err}
 use Rattle.assoc_assignment.specs.Assignment.{Assignment, linear_assignment}
 use Rattle.assoc_assignment.specs.Answers.{room_of, Lent, lent_after, assignment_counts, call_with, assignment_verdict, assignment_call}
 
 module _ (boxes tracks : ℕ) (iou cost : List Float) (threshold : Float) (l : Lent) where
-  abbrev asked : Verdict
+  abbrev asked : Result ⊤ Refusal
   asked = assignment_verdict boxes tracks (length iou) (length cost) (room_of l.lists) (length l.work)
 
   abbrev assigned : Assignment
   assigned = linear_assignment iou cost boxes tracks threshold
 
-  pub assignment-refused : {v : Verdict} {why : Refusal} → v ≡ asked → v ≡ verdict.Refused why → call_with (Refused why) l ≡ assignment_call boxes tracks iou cost threshold l
+  pub assignment-refused : {v : Result ⊤ Refusal} {why : Refusal} → v ≡ asked → v ≡ Err why → call_with (Err why) l ≡ assignment_call boxes tracks iou cost threshold l
   unfolding assignment_call
   assignment-refused e f = rw (sym e ∙ f)
 
-  pub assignment-accepted : asked ≡ verdict.Accepted → call_with (Assigned (assignment_counts assigned)) (lent_after assigned l) ≡ assignment_call boxes tracks iou cost threshold l
+  pub assignment-accepted : asked ≡ Ok tt → call_with (Ok (assignment_counts assigned)) (lent_after assigned l) ≡ assignment_call boxes tracks iou cost threshold l
   unfolding assignment_call
   assignment-accepted e = rw e

@@ -24,9 +24,10 @@ use Rattle.assoc_matching.proofs.PartnerLaws.{held-matches, turns_are, scans_are
 use Rattle.assoc_matching.proofs.AccountLaws.{boxes-in, tracks-in}
 use Rattle.assoc_assignment.specs.declared.assignment.Left.{Left}
 use Rattle.assoc_assignment.specs.declared.assignment.Lengths.{Lengths}
-use Rattle.assoc_assignment.specs.declared.assignment.AssignmentAnswer.TheVariants.{Assigned}
+use Rattle.std.proofs.Common.{Ok}
 use Rattle.assoc_assignment.specs.Assignment.{Assignment, unmatched, validated, assigned_by}
-use Rattle.assoc_assignment.specs.Answers.{Lists, lists_with, Room, Lent, lent_after, assignment_counts, call_with}
+use Rattle.assoc_assignment.specs.declared.assignment.Room.{Room}
+use Rattle.assoc_assignment.specs.Answers.{Lists, lists_with, Lent, lent_after, assignment_counts, call_with}
 use Rattle.assoc_assignment.specs.Private.{picked, rejected, Marked, TailRoom, Tails, LeftRoom, Leaving, leaving_with, leaving, Rowed, ListRoom, Listing, listing_with, listing}
 use Rattle.assoc_assignment.proofs.MarkLaws.{unmarked}
 use Rattle.assoc_assignment.proofs.AccountLaws.{each-once, assigned-is}
@@ -160,10 +161,10 @@ module _ (cost : List Float) (n m : ℕ) (t : Float) (few-rows : n ≤ 255) (few
 
   pub assignment-done : (ok : Pair → Bool) (l : Lent) {r : Counts} {partner : List ℕ} {lists : Lists} {work : List Float} {k : Lengths} → Partnered cost n m t r partner
       → listing_with k lists ≡ listing (validated ok n m (matched (held m partner) 0 0)) l.lists → work ≡ zeroed l.work
-      → call_with (Assigned (record { pairs = k.pairs; detections = k.boxes; tracks = k.tracks; rejected = k.rejected; turns = r.turns; scans = r.scans })) (record { lists = lists; work = work })
-      ≡ call_with (Assigned (assignment_counts (assigned_by ok cost n m t))) (lent_after (assigned_by ok cost n m t) l)
+      → call_with (Ok (record { pairs = k.pairs; detections = k.boxes; tracks = k.tracks; rejected = k.rejected; turns = r.turns; scans = r.scans })) (record { lists = lists; work = work })
+      ≡ call_with (Ok (assignment_counts (assigned_by ok cost n m t))) (lent_after (assigned_by ok cost n m t) l)
   assignment-done ok l {r} {partner} {lists} {work} {k} w o z =
       let a : Assignment = validated ok n m (match_detections cost n m t) in
       let q : listing_with k lists ≡ listing a l.lists = rw (held-matches cost n m t few-rows few-cols w) at o in
       rw (assigned-is ok cost n m t, turns_are cost n m t few-rows few-cols w, scans_are cost n m t few-rows few-cols w, z)
-      (ap (λ (x : Listing). call_with (Assigned (record { pairs = x.many.pairs; detections = x.many.boxes; tracks = x.many.tracks; rejected = x.many.rejected; turns = a.turns; scans = a.scans })) (record { lists = x.lists; work = zeroed l.work })) q)
+      (ap (λ (x : Listing). call_with (Ok (record { pairs = x.many.pairs; detections = x.many.boxes; tracks = x.many.tracks; rejected = x.many.rejected; turns = a.turns; scans = a.scans })) (record { lists = x.lists; work = zeroed l.work })) q)

@@ -6,7 +6,7 @@ use Prim.Native.Nat.{ℕ, ◌+◌, ◌*◌, ◌<◌}
 use lib.Ieee.{Float, nan, le}
 use lib.ListN.{length, get_or}
 use Rattle.refusals.proofs.Laws.{accepted_of}
-use Rattle.refusals.specs.declared.refusal.Verdict.TheVariants.{Accepted}
+use Rattle.std.proofs.Common.{Ok}
 use Rattle.assoc_matching.specs.Matching.{pair}
 use Rattle.assoc_assignment.specs.Assignment.{Assignment, valid_match, linear_assignment}
 use Rattle.assoc_assignment.specs.Account.{Accounted}
@@ -16,7 +16,7 @@ use Rattle.assoc_assignment.proofs.AccountLaws.{accounted}
 
 module _ (boxes tracks : ℕ) (iou cost : List Float) (threshold : Float) (l : Lent) where
   -- its number is 0 only where no condition of a refusal holds
-  pub assignment-passes : (assignment_call boxes tracks iou cost threshold l).number ≡ 0 → assignment_verdict boxes tracks (length iou) (length cost) (room_of l.lists) (length l.work) ≡ Accepted
+  pub assignment-passes : (assignment_call boxes tracks iou cost threshold l).number ≡ 0 → assignment_verdict boxes tracks (length iou) (length cost) (room_of l.lists) (length l.work) ≡ Ok tt
   unfolding assignment_call
   assignment-passes e = accepted_of _ e
 

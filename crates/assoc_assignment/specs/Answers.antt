@@ -1,13 +1,12 @@
--- What a call of linear_assignment says and leaves in lent memory: document 01, "When a call is turned down", Pairs.
-use Rattle.std.specs.Prelude.{Bool, not, ◌||◌, List, ℕ, ◌*◌, max, min, ltb, eqb, Float, length}
+-- What a call of linear_assignment says and leaves in lent memory.
+use Rattle.std.specs.Prelude.{⊤, Result, Ok, Err, Bool, not, ◌||◌, List, ℕ, ◌*◌, max, min, ltb, eqb, Float, length}
 use Rattle.laws.specs.Over.{over}
-use Rattle.refusals.specs.declared.refusal.Verdict.{Verdict}
+use Rattle.refusals.specs.declared.refusal.Refusal.{Refusal}
 use Rattle.refusals.specs.Refusal.{number, too_many, verdict}
 use Rattle.assoc_matching.specs.Matching.{boxes_of, tracks_of}
 use Rattle.assoc_matching.specs.Answers.{Call, call_by, zeroed}
 use Rattle.assoc_assignment.specs.declared.assignment.AssignmentCounts.{AssignmentCounts}
-use Rattle.assoc_assignment.specs.declared.assignment.AssignmentAnswer.{AssignmentAnswer}
-use Rattle.assoc_assignment.specs.declared.assignment.AssignmentAnswer.TheVariants.{Assigned, Refused}
+use Rattle.assoc_assignment.specs.declared.assignment.Room.{Room}
 use Rattle.assoc_assignment.specs.Assignment.{Assignment, linear_assignment}
 
 -- ---- lent memory
@@ -33,12 +32,6 @@ listed a l =
     (over a.unmatched_tracks l.unmatched_tracks)
 
 -- their lengths
-pub record Room : Type 0 where
-  pub pair_boxes : ℕ
-  pub pair_tracks : ℕ
-  pub unmatched_detections : ℕ
-  pub unmatched_tracks : ℕ
-
 abbrev pub room_with : ℕ → ℕ → ℕ → ℕ → Room
 room_with pair_boxes pair_tracks unmatched_detections unmatched_tracks =
     record { pair_boxes = pair_boxes; pair_tracks = pair_tracks; unmatched_detections = unmatched_detections; unmatched_tracks = unmatched_tracks }
@@ -65,15 +58,15 @@ assignment_counts a = record { pairs = length a.matches; detections = length a.u
 abbrev pub no_counts : AssignmentCounts
 no_counts = record { pairs = 0; detections = 0; tracks = 0; rejected = 0; turns = 0; scans = 0 }
 
-abbrev pub assignment_number : AssignmentAnswer → ℕ
-assignment_number (Assigned c) = 0
-assignment_number (Refused why) = number why
+abbrev pub assignment_number : Result AssignmentCounts Refusal → ℕ
+assignment_number (Ok c) = 0
+assignment_number (Err why) = number why
 
-abbrev pub assignment_values : AssignmentAnswer → AssignmentCounts
-assignment_values (Assigned c) = c
-assignment_values (Refused why) = no_counts
+abbrev pub assignment_values : Result AssignmentCounts Refusal → AssignmentCounts
+assignment_values (Ok c) = c
+assignment_values (Err why) = no_counts
 
-abbrev pub call_with : {L : Type 0} → AssignmentAnswer → L → Call AssignmentCounts L
+abbrev pub call_with : {L : Type 0} → Result AssignmentCounts Refusal → L → Call AssignmentCounts L
 call_with r l = record { number = assignment_number r; counts = assignment_values r; lent = l }
 
 -- ---- a call
@@ -86,7 +79,7 @@ assignment_short boxes tracks room work =
     (((ltb room.unmatched_detections boxes || ltb room.unmatched_tracks tracks) || ltb room.pair_boxes few) || ltb room.pair_tracks few) || ltb work (n * n)
 
 -- from the lengths of the two matrices, of the lists and of the work slice
-unfoldable pub assignment_verdict : ℕ → ℕ → ℕ → ℕ → Room → ℕ → Verdict
+unfoldable pub assignment_verdict : ℕ → ℕ → ℕ → ℕ → Room → ℕ → Result ⊤ Refusal
 assignment_verdict boxes tracks ious costs room work =
     verdict
     (too_many boxes tracks)

@@ -1,5 +1,5 @@
 -- What the contracts of the private functions of assignment.rt cite. proofs/ shows that it comes to the definition.
-use Rattle.std.specs.Prelude.{◌≡◌, List, ◌++◌, Bool, true, false, cond, not, ◌&&◌, ℕ, ◌+◌, ◌*◌, ◌≤◌, max, min, ltb, Float, length, set}
+use Rattle.std.specs.Prelude.{◌≡◌, Result, List, ◌++◌, Bool, true, false, cond, not, ◌&&◌, ℕ, ◌+◌, ◌*◌, ◌≤◌, max, min, ltb, Float, length, set}
 use Rattle.laws.specs.Tab.{tab}
 use Rattle.laws.specs.Sieve.{sieve}
 use Rattle.laws.specs.Elem.{elem}
@@ -8,17 +8,19 @@ use Rattle.laws.specs.Occurs.{occurs}
 use Rattle.laws.specs.Over.{over, Pushed}
 use Rattle.assoc_matching.specs.Matching.{Pair, pair, boxes_of, tracks_of}
 use Rattle.assoc_matching.specs.Partners.{held, Partnered}
-use Rattle.assoc_matching.specs.declared.matching.PartnerAnswer.{PartnerAnswer}
+use Rattle.lapjv.specs.declared.Counts.{Counts}
+use Rattle.refusals.specs.declared.refusal.Refusal.{Refusal}
 use Rattle.assoc_matching.specs.Answers.{zeroed, partner_number, partner_values}
 use Rattle.assoc_assignment.specs.declared.assignment.Left.{Left}
 use Rattle.assoc_assignment.specs.declared.assignment.Lengths.{Lengths}
 use Rattle.assoc_assignment.specs.Assignment.{Assignment, unmatched}
-use Rattle.assoc_assignment.specs.Answers.{Lists, listed, Room}
+use Rattle.assoc_assignment.specs.declared.assignment.Room.{Room}
+use Rattle.assoc_assignment.specs.Answers.{Lists, listed}
 
 -- ---- the matched pairs
 
 -- accepted, with for each row its column and lapjv's counts, and the work slice zero
-pub record Found (cost : List Float) (n m : ℕ) (t : Float) (work : List Float) (r : PartnerAnswer) (partner : List ℕ) (work' : List Float) : Type 0 where
+pub record Found (cost : List Float) (n m : ℕ) (t : Float) (work : List Float) (r : Result Counts Refusal) (partner : List ℕ) (work' : List Float) : Type 0 where
   pub accepted : partner_number r ≡ 0
   pub pairs : Partnered cost n m t (partner_values r) partner
   pub cleared : work' ≡ zeroed work

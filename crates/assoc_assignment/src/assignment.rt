@@ -1,5 +1,5 @@
 // linear_assignment of assoc.rs, without emb_cost: the pairs that stand, and the boxes and tracks that are left.
-ghost use Rattle.std.specs.Prelude.{◌≡◌, false, not, ◌+◌, ◌*◌, ◌≤◌, ◌<◌, max, ltb, length, get_or};
+ghost use Rattle.std.specs.Prelude.{◌≡◌, false, not, ◌+◌, ◌*◌, ◌≤◌, ◌<◌, max, ltb, length, get_or, Ok};
 ghost use Rattle.std.specs.Float.Ieee.{le};
 ghost use Rattle.laws.specs.Tab.{indices};
 ghost use Rattle.laws.specs.Sieve.{sieve};
@@ -7,16 +7,15 @@ ghost use Rattle.laws.specs.Over.{Pushed};
 ghost use Rattle.laws.specs.Collecting.{Push};
 ghost use Rattle.assoc_matching.specs.Matching.{matched};
 ghost use Rattle.assoc_matching.specs.Partners.{held, Sized, Clean, PairRoom, Wrote};
-ghost use Rattle.assoc_assignment.specs.declared.assignment.AssignmentAnswer.TheVariants.{Assigned};
 ghost use Rattle.assoc_assignment.specs.Assignment.{valid_match, validated, linear_assignment};
 ghost use Rattle.assoc_assignment.specs.Answers.{lists_with, room_with, lent_with, lent_after, assignment_counts, call_with, assignment_verdict, assignment_call};
 ghost use Rattle.assoc_assignment.specs.Private.{Found, chosen, picked, rejected, Rowed, Mark, Marked, TailRoom, Tails, LeftRoom, leaving_with, leaving, ListRoom, listing_with, listing, AssignmentReady};
 
-use assoc_matching::{PartnerAnswer, clear, direct_columns, is_direct, lapjv_partners, put_pair};
-use refusals::{Refusal, Verdict, larger, smaller};
+use assoc_matching::{Matrix, direct_columns, is_direct, lapjv_partners, put_pairs};
+use refusals::Refusal;
 
 // The lengths of the lists, how many pairs were rejected, which are the last of both unmatched lists, and lapjv's row turns and column scans: both 0 on the direct path.
-#[derive(Clone, Copy)]
+#[derive(Clone, Copy, Debug, PartialEq, Eq)]
 pub struct AssignmentCounts {
     pub pairs: usize,
     pub detections: usize,
@@ -26,10 +25,13 @@ pub struct AssignmentCounts {
     pub scans: usize,
 }
 
-#[derive(Drop)]
-pub enum AssignmentAnswer {
-    Assigned(AssignmentCounts),
-    Refused(Refusal),
+// How long the four lists are that a call is lent.
+#[derive(Clone, Copy, Debug, PartialEq, Eq)]
+pub struct Room {
+    pub pair_boxes: usize,
+    pub pair_tracks: usize,
+    pub unmatched_detections: usize,
+    pub unmatched_tracks: usize,
 }
 
 // How many boxes and tracks are left, the rejected pairs among them.
@@ -54,83 +56,66 @@ pub(crate) struct Lengths {
 // For each row its column, or ncols; and lapjv's counts. On the direct path the columns come from the costs alone, and
 // the work slice is only cleared.
 fn find_partners(
-    cost: &[f32],
-    nrows: usize,
-    ncols: usize,
+    cost: Matrix,
     threshold: f32,
     work: &mut [f64],
     partner: &mut [u8],
-) -> PartnerAnswer
-    requires sides { Sized nrows ncols (length cost.now) }
-    requires square { max nrows ncols * max nrows ncols ≤ length work.old }
-    requires rows { length partner.old ≡ nrows }
-    ensures { Found cost.now nrows ncols threshold work.old result partner.new work.new }
+) -> Result<lapjv::Counts, Refusal>
+    requires square { max cost.nrows cost.ncols * max cost.nrows cost.ncols ≤ length work.old }
+    requires rows { length partner.old ≡ cost.nrows }
+    ensures { Found cost.entry.cells.now cost.entry.nrows cost.entry.ncols threshold work.old result partner.new work.new }
 {
-    if is_direct(nrows, ncols, cost, threshold) {
-        direct_columns(ncols, cost, threshold, partner);
-        clear(work);
-        return PartnerAnswer::Found(lapjv::Counts { turns: 0, scans: 0 });
+    if is_direct(cost.nrows, cost.ncols, cost.cells, threshold) {
+        direct_columns(cost.ncols, cost.cells, threshold, partner);
+        work.fill(0.0);
+        return Ok(lapjv::Counts { turns: 0, scans: 0 });
     }
-    lapjv_partners(nrows, ncols, cost, partner, work)
+    lapjv_partners(cost.nrows, cost.ncols, cost.cells, partner, work)
 }
 
 // ---- the pairs that stand, or the others
 
+// Kept: `wanted` is one comparison, where a closure would need a clause for each of the two tests.
 fn stands(iou: f32, threshold: f32, wanted: bool) -> bool
     ensures { result ≡ chosen wanted (le threshold iou) }
 {
-    if wanted {
-        return iou >= threshold;
-    }
-    !(iou >= threshold)
+    (iou >= threshold) == wanted
 }
 
 // The column j of row i where that is a pair of the wanted kind, or ncols.
-fn pick(
-    iou: &[f32],
-    nrows: usize,
-    ncols: usize,
-    threshold: f32,
-    wanted: bool,
-    i: usize,
-    j: usize,
-) -> usize
-    requires sides { Sized nrows ncols (length iou.now) }
-    requires row { i < nrows }
-    ensures { result ≡ picked (λ p. chosen wanted (valid_match iou.now ncols threshold p)) ncols i j }
+// Kept: ncols is no column, as in the clauses of lapjv_partners and put_pairs, which have bytes for all rows.
+fn pick(iou: Matrix, threshold: f32, wanted: bool, i: usize, j: usize) -> usize
+    requires { i < iou.nrows }
+    ensures { result ≡ picked (λ p. chosen wanted (valid_match iou.entry.cells.now iou.entry.ncols threshold p)) iou.entry.ncols i j }
 {
-    if j < ncols {
-        if stands(iou[i * ncols + j], threshold, wanted) {
+    if j < iou.ncols {
+        if stands(iou.at(i, j), threshold, wanted) {
             return j;
         }
-        return ncols;
     }
-    ncols
+    iou.ncols
 }
 
 // Writes the pairs of the wanted kind, in row order; how many there are.
 fn write_picked(
-    iou: &[f32],
-    ncols: usize,
+    iou: Matrix,
     threshold: f32,
     wanted: bool,
     partner: &[u8],
     boxes: &mut [usize],
     tracks: &mut [usize],
 ) -> usize
-    requires sides { Sized (length partner.now) ncols (length iou.now) }
-    requires room { PairRoom (sieve (λ p. chosen wanted (valid_match iou.now ncols threshold p)) (held ncols partner.now)) (length boxes.old) (length tracks.old) }
-    ensures { Wrote (sieve (λ p. chosen wanted (valid_match iou.now ncols threshold p)) (held ncols partner.now)) boxes.old tracks.old result boxes.new tracks.new }
+    requires rows { length partner.now ≡ iou.nrows }
+    requires room { PairRoom (sieve (λ p. chosen wanted (valid_match iou.cells.now iou.ncols threshold p)) (held iou.ncols partner.now)) (length boxes.old) (length tracks.old) }
+    ensures { Wrote (sieve (λ p. chosen wanted (valid_match iou.entry.cells.now iou.entry.ncols threshold p)) (held iou.entry.ncols partner.now)) boxes.old tracks.old result boxes.new tracks.new }
 {
-    let mut k = 0;
-    let mut i = 0;
-    while i < partner.len() {
-        let j = partner[i] as usize;
-        let column = pick(iou, partner.len(), ncols, threshold, wanted, i, j);
-        k = put_pair(boxes, tracks, k, i, column, ncols);
-        i += 1;
-    }
-    k
+    put_pairs(
+        iou.nrows,
+        iou.ncols,
+        |i| pick(iou, threshold, wanted, i, partner[i] as usize),
+        boxes,
+        tracks,
+    )
 }
 
 // ---- the boxes and tracks that are left
@@ -142,7 +127,6 @@ fn mark(boxes: &mut [bool], tracks: &mut [bool], i: usize, j: usize, ncols: usiz
     if j < ncols {
         boxes[i] = true;
         tracks[j] = true;
-        return;
     }
 }
 
@@ -151,11 +135,8 @@ fn mark_matched(partner: &[u8], ncols: usize, boxes: &mut [bool], tracks: &mut [
     requires { Clean (length partner.now) false boxes.old × Clean ncols false tracks.old }
     ensures { Marked (held ncols partner.now) (length partner.now) ncols boxes.new tracks.new }
 {
-    let mut i = 0;
-    while i < partner.len() {
-        let j = partner[i] as usize;
-        mark(boxes, tracks, i, j, ncols);
-        i += 1;
+    for (i, j) in partner.iter().enumerate() {
+        mark(boxes, tracks, i, usize::from(*j), ncols);
     }
 }
 
@@ -176,18 +157,15 @@ fn push_unmarked(marks: &[bool], out: &mut [usize]) -> usize
     ensures { Pushed out.old (sieve (λ j. not (get_or marks.now j false)) (indices (length marks.now))) result out.new }
 {
     let mut k = 0;
-    let mut i = 0;
-    while i < marks.len() {
-        k = push(out, k, i, marks[i]);
-        i += 1;
+    for (i, marked) in marks.iter().enumerate() {
+        k = push(out, k, i, *marked);
     }
     k
 }
 
 // Pushes the boxes and tracks of the rejected pairs behind the first a and b of the lists.
 fn push_rejected(
-    iou: &[f32],
-    ncols: usize,
+    iou: Matrix,
     threshold: f32,
     partner: &[u8],
     detections: &mut [usize],
@@ -195,13 +173,12 @@ fn push_rejected(
     a: usize,
     b: usize,
 ) -> Left
-    requires sides { Sized (length partner.now) ncols (length iou.now) }
-    requires room { TailRoom (rejected (valid_match iou.now ncols threshold) (held ncols partner.now)) a b (length detections.old) (length tracks.old) }
-    ensures { Tails (rejected (valid_match iou.now ncols threshold) (held ncols partner.now)) a b detections.old tracks.old result detections.new tracks.new }
+    requires rows { length partner.now ≡ iou.nrows }
+    requires room { TailRoom (rejected (valid_match iou.cells.now iou.ncols threshold) (held iou.ncols partner.now)) a b (length detections.old) (length tracks.old) }
+    ensures { Tails (rejected (valid_match iou.entry.cells.now iou.entry.ncols threshold) (held iou.entry.ncols partner.now)) a b detections.old tracks.old result detections.new tracks.new }
 {
     let k = write_picked(
         iou,
-        ncols,
         threshold,
         false,
         partner,
@@ -217,8 +194,7 @@ fn push_rejected(
 
 // The unmatched boxes and tracks, each ascending, then those of the rejected pairs.
 fn leave_with(
-    iou: &[f32],
-    ncols: usize,
+    iou: Matrix,
     threshold: f32,
     partner: &[u8],
     detections: &mut [usize],
@@ -226,52 +202,46 @@ fn leave_with(
     dets: &mut [bool],
     trks: &mut [bool],
 ) -> Left
-    requires sides { Sized (length partner.now) ncols (length iou.now) }
-    requires room { LeftRoom (valid_match iou.now ncols threshold) (held ncols partner.now) (length partner.now) ncols (length detections.old) (length tracks.old) }
-    requires clean { Clean (length partner.now) false dets.old × Clean ncols false trks.old }
+    requires rows { length partner.now ≡ iou.nrows }
+    requires room { LeftRoom (valid_match iou.cells.now iou.ncols threshold) (held iou.ncols partner.now) (length partner.now) iou.ncols (length detections.old) (length tracks.old) }
+    requires clean { Clean (length partner.now) false dets.old × Clean iou.ncols false trks.old }
     ensures { leaving_with result detections.new tracks.new
-        ≡ leaving (valid_match iou.now ncols threshold) (held ncols partner.now) (length partner.now) ncols detections.old tracks.old }
+        ≡ leaving (valid_match iou.entry.cells.now iou.entry.ncols threshold) (held iou.entry.ncols partner.now) (length partner.now) iou.entry.ncols detections.old tracks.old }
 {
-    mark_matched(partner, ncols, dets, trks);
+    mark_matched(partner, iou.ncols, dets, trks);
     let a = push_unmarked(dets, detections);
     let b = push_unmarked(trks, tracks);
-    push_rejected(iou, ncols, threshold, partner, detections, tracks, a, b)
+    push_rejected(iou, threshold, partner, detections, tracks, a, b)
 }
 
 fn leave(
-    iou: &[f32],
-    nrows: usize,
-    ncols: usize,
+    iou: Matrix,
     threshold: f32,
     partner: &[u8],
     detections: &mut [usize],
     tracks: &mut [usize],
 ) -> Left
-    requires rows { length partner.now ≡ nrows }
-    requires sides { Sized nrows ncols (length iou.now) }
-    requires room { LeftRoom (valid_match iou.now ncols threshold) (held ncols partner.now) (length partner.now) ncols (length detections.old) (length tracks.old) }
+    requires rows { length partner.now ≡ iou.nrows }
+    requires room { LeftRoom (valid_match iou.cells.now iou.ncols threshold) (held iou.ncols partner.now) (length partner.now) iou.ncols (length detections.old) (length tracks.old) }
     ensures { leaving_with result detections.new tracks.new
-        ≡ leaving (valid_match iou.now ncols threshold) (held ncols partner.now) (length partner.now) ncols detections.old tracks.old }
+        ≡ leaving (valid_match iou.entry.cells.now iou.entry.ncols threshold) (held iou.entry.ncols partner.now) (length partner.now) iou.entry.ncols detections.old tracks.old }
 {
     let mut dets = [false; 255];
     let mut trks = [false; 255];
     leave_with(
         iou,
-        ncols,
         threshold,
         partner,
         detections,
         tracks,
-        &mut dets[..nrows],
-        &mut trks[..ncols],
+        &mut dets[..iou.nrows],
+        &mut trks[..iou.ncols],
     )
 }
 
 // The lists of the matched pairs.
 fn list(
-    iou: &[f32],
-    nrows: usize,
-    ncols: usize,
+    iou: Matrix,
     threshold: f32,
     partner: &[u8],
     boxes: &mut [usize],
@@ -279,17 +249,16 @@ fn list(
     detections: &mut [usize],
     left: &mut [usize],
 ) -> Lengths
-    requires sides { Sized nrows ncols (length iou.now) }
-    requires rows { Rowed nrows ncols partner.now }
-    requires room { ListRoom nrows ncols (room_with (length boxes.old) (length tracks.old) (length detections.old) (length left.old)) }
+    requires rows { Rowed iou.nrows iou.ncols partner.now }
+    requires room { ListRoom iou.nrows iou.ncols (room_with (length boxes.old) (length tracks.old) (length detections.old) (length left.old)) }
     ensures { listing_with result (lists_with boxes.new tracks.new detections.new left.new)
-        ≡ listing (validated (valid_match iou.now ncols threshold) nrows ncols (matched (held ncols partner.now) 0 0))
+        ≡ listing (validated (valid_match iou.entry.cells.now iou.entry.ncols threshold) iou.entry.nrows iou.entry.ncols (matched (held iou.entry.ncols partner.now) 0 0))
         (lists_with boxes.old tracks.old detections.old left.old) }
 {
-    let pairs = write_picked(iou, ncols, threshold, true, partner, boxes, tracks);
-    let rest = leave(iou, nrows, ncols, threshold, partner, detections, left);
+    let pairs = write_picked(iou, threshold, true, partner, boxes, tracks);
+    let rest = leave(iou, threshold, partner, detections, left);
     Lengths {
-        pairs: pairs,
+        pairs,
         boxes: rest.boxes,
         tracks: rest.tracks,
         rejected: rest.rejected,
@@ -304,28 +273,25 @@ pub fn assignment_verdict(
     tracks: usize,
     ious: usize,
     costs: usize,
-    pairs: usize,
-    partners: usize,
-    detections: usize,
-    left: usize,
+    room: Room,
     work: usize,
-) -> Verdict
-    ensures { result ≡ assignment_verdict boxes tracks ious costs (room_with pairs partners detections left) work }
+) -> Result<(), Refusal>
+    ensures { result ≡ assignment_verdict boxes tracks ious costs room work }
 {
     if (255 < boxes) | (255 < tracks) {
-        return Verdict::Refused(Refusal::TooMany);
+        return Err(Refusal::TooMany);
     }
     let cells = boxes * tracks;
     if (ious != cells) | (costs != cells) {
-        return Verdict::Refused(Refusal::OtherSize);
+        return Err(Refusal::OtherSize);
     }
-    let few = smaller(boxes, tracks);
-    let n = larger(boxes, tracks);
-    let short = (detections < boxes) | (left < tracks);
-    if short | (pairs < few) | (partners < few) | (work < n * n) {
-        return Verdict::Refused(Refusal::TooShort);
+    let few = boxes.min(tracks);
+    let n = boxes.max(tracks);
+    let short = (room.unmatched_detections < boxes) | (room.unmatched_tracks < tracks);
+    if short | (room.pair_boxes < few) | (room.pair_tracks < few) | (work < n * n) {
+        return Err(Refusal::TooShort);
     }
-    Verdict::Accepted
+    Ok(())
 }
 
 fn assign_with(
@@ -340,30 +306,33 @@ fn assign_with(
     left: &mut [usize],
     work: &mut [f64],
     partner: &mut [u8],
-) -> AssignmentAnswer
+) -> Result<AssignmentCounts, Refusal>
     requires ready { AssignmentReady nrows ncols (length iou.now) (length cost.now) (room_with (length boxes.old) (length tracks.old) (length detections.old) (length left.old)) (length work.old) }
     requires rows { length partner.old ≡ nrows }
     ensures { let a = linear_assignment iou.now cost.now nrows ncols threshold in
         call_with result (lent_with boxes.new tracks.new detections.new left.new work.new)
-        ≡ call_with (Assigned (assignment_counts a)) (lent_after a (lent_with boxes.old tracks.old detections.old left.old work.old)) }
+        ≡ call_with (Ok (assignment_counts a)) (lent_after a (lent_with boxes.old tracks.old detections.old left.old work.old)) }
 {
-    let answer = find_partners(cost, nrows, ncols, threshold, work, partner);
-    match answer {
-        PartnerAnswer::Refused(why) => AssignmentAnswer::Refused(why),
-        PartnerAnswer::Found(counts) => {
-            let lists = list(
-                iou, nrows, ncols, threshold, partner, boxes, tracks, detections, left,
-            );
-            AssignmentAnswer::Assigned(AssignmentCounts {
-                pairs: lists.pairs,
-                detections: lists.boxes,
-                tracks: lists.tracks,
-                rejected: lists.rejected,
-                turns: counts.turns,
-                scans: counts.scans,
-            })
-        }
-    }
+    let cost = Matrix {
+        cells: cost,
+        nrows,
+        ncols,
+    };
+    let iou = Matrix {
+        cells: iou,
+        nrows,
+        ncols,
+    };
+    let counts = find_partners(cost, threshold, work, partner)?;
+    let lists = list(iou, threshold, partner, boxes, tracks, detections, left);
+    Ok(AssignmentCounts {
+        pairs: lists.pairs,
+        detections: lists.boxes,
+        tracks: lists.tracks,
+        rejected: lists.rejected,
+        turns: counts.turns,
+        scans: counts.scans,
+    })
 }
 
 // The pairs whose IoU is at least the threshold; then the unmatched boxes and tracks, each ascending,
@@ -379,25 +348,18 @@ pub fn linear_assignment(
     unmatched_detections: &mut [usize],
     unmatched_tracks: &mut [usize],
     work: &mut [f64],
-) -> AssignmentAnswer
+) -> Result<AssignmentCounts, Refusal>
     ensures { call_with result (lent_with pair_boxes.new pair_tracks.new unmatched_detections.new unmatched_tracks.new work.new)
         ≡ assignment_call boxes tracks iou.now cost.now threshold
         (lent_with pair_boxes.old pair_tracks.old unmatched_detections.old unmatched_tracks.old work.old) }
 {
-    let verdict = assignment_verdict(
-        boxes,
-        tracks,
-        iou.len(),
-        cost.len(),
-        pair_boxes.len(),
-        pair_tracks.len(),
-        unmatched_detections.len(),
-        unmatched_tracks.len(),
-        work.len(),
-    );
-    if let Verdict::Refused(why) = verdict {
-        return AssignmentAnswer::Refused(why);
-    }
+    let room = Room {
+        pair_boxes: pair_boxes.len(),
+        pair_tracks: pair_tracks.len(),
+        unmatched_detections: unmatched_detections.len(),
+        unmatched_tracks: unmatched_tracks.len(),
+    };
+    assignment_verdict(boxes, tracks, iou.len(), cost.len(), room, work.len())?;
     let mut partner = [0u8; 255];
     assign_with(
         iou,

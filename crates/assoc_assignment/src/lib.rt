@@ -3,4 +3,4 @@
 
 mod assignment;
 
-pub use assignment::{AssignmentAnswer, AssignmentCounts, assignment_verdict, linear_assignment};
+pub use assignment::{AssignmentCounts, Room, assignment_verdict, linear_assignment};

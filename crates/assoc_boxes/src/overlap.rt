@@ -31,6 +31,7 @@ pub fn bounding_box(x1: f32, y1: f32, x2: f32, y2: f32) -> BoundingBox
 }
 
 // The area that two boxes share.
+#[tactic(auto, unfolding(crate::specs::Overlap::intersection))]
 fn intersection(det: BoundingBox, trk: BoundingBox) -> f32
     ensures { result ≡ Overlap.intersection det trk }
 {
@@ -53,6 +54,7 @@ pub struct OverlapAreas {
 }
 
 // 0 unless the union is above 0.
+#[tactic(auto, unfolding(crate::specs::Overlap::ratio))]
 fn ratio(wh: f32, union: f32) -> f32
     ensures { result ≡ Overlap.ratio wh union }
 {
@@ -60,6 +62,7 @@ fn ratio(wh: f32, union: f32) -> f32
 }
 
 // The area that two boxes share, that of their union, and the share.
+#[tactic(auto, unfolding(crate::specs::Overlap::overlap, crate::specs::Overlap::union))]
 pub fn overlap(det: BoundingBox, trk: BoundingBox) -> OverlapAreas
     ensures { result ≡ Overlap.overlap det trk }
 {
@@ -82,6 +85,7 @@ fn buffered(b: BoundingBox, confidence: f32, k: f32) -> BoundingBox
 }
 
 // The overlap of a detection and a track that are buffered by the track's confidence.
+#[tactic(auto, unfolding(crate::specs::Overlap::soft_biou))]
 pub fn soft_biou(det: BoundingBox, trk: BoundingBox, confidence: f32) -> f32
     ensures { result ≡ Overlap.soft_biou det trk confidence }
 {

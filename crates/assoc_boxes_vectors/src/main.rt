@@ -28,9 +28,11 @@ fn replay() -> bool {
 }
 
 // A proved loop has to end, and nothing says that the input does: the count is one that no run uses up.
+// Kept: the call is all in which such a loop differs from another program's.
 fn main() {
-    let mut records = u64::MAX;
-    while records > 0 && replay() {
-        records -= 1;
+    for _ in 0..u64::MAX {
+        if !replay() {
+            break;
+        }
     }
 }

@@ -10,6 +10,7 @@ use assoc_boxes::shape::{shape_v1, shape_v2};
 use assoc_similarity::confidence_at;
 
 // The weights, and flags for the Rust's Options: where one is false its slice is not looked at.
+// Kept: C fills it in, a byte for each flag, as bedside.h's bedside_associate_params.
 #[repr(C)]
 #[derive(Clone, Copy)]
 pub struct AssociateParams {

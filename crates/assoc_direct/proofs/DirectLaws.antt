@@ -1,21 +1,25 @@
 -- The direct path: the loops over a row's cells and over the rows, and what it leaves. Assumes nothing.
 use mathlib.Core.Path.{◌≡◌, refl, sym, ap, ◌∙◌}
-use mathlib.Core.List.{List}
+use mathlib.Core.List.{List, [], ◌∷◌}
 use mathlib.Core.Bool.{Bool, true, false, cond, not, ◌&&◌}
-use Prim.Native.Nat.{ℕ, ◌+◌, ◌-◌, ◌*◌, ◌≤◌, ◌<◌, zero-le}
-use native.Mathlib.Nat.{zero-mul, le_refl, le_trans}
+use Prim.Native.Nat.{ℕ, zero, suc, max, ◌+◌, ◌-◌, ◌*◌, ◌≤◌, ◌<◌}
+use native.Mathlib.Nat.{le_refl, le_trans}
 use native.Mathlib.Omega.{arith}
 use lib.Dec.{leb, eqb}
 use lib.Ieee.{Float}
 use lib.ListN.{length, get_or, set, take, replicate, length-replicate, get_or-replicate}
 use lib.Seq.{length-take-le, get_or-take}
-use borrow.Author.Tests.{eqb-true, le-ltb, eq-eqb}
+use borrow.Author.Tests.{eqb-true, le-ltb, eq-eqb, leb-true, le-leb}
+use Rattle.std.proofs.Common.{leb-false}
+use Rattle.std.proofs.lemmas.Bool.{lt-leb}
+use Rattle.std.proofs.lemmas.List.Folds.{list_all-append}
+use Rattle.std.specs.List.{list_all}
 use Rattle.laws.specs.Tests.{false_not_true}
 use Rattle.laws.specs.Tab.{tab, tab_ext, tab-at, tab_of, length-tab, Filling, fill_start, fill_on, fill_whole, fill_ahead}
 use Rattle.laws.specs.Count.{bit, count_where, count_none, count-more, count-few}
-use Rattle.laws.specs.Most.{most, most_ext, Low, low-start, low-on, low_end, high}
+use Rattle.laws.specs.Most.{most, Low, low-start, low-on, low_end, high}
 use Rattle.laws.specs.Last.{last_where, last_none, last_more, last-few}
-use Rattle.laws.specs.Grid.{row_next, row_ends}
+use Rattle.laws.specs.Grid.{row_ends}
 use Rattle.refusals.specs.Refusal.{too_many}
 use Rattle.refusals.proofs.Laws.{few-sides}
 use Rattle.assoc_direct.specs.Simple.{above, mask, row_sum, col_sum, simple}
@@ -58,9 +62,9 @@ module _ (p : ℕ → Bool) (m : ℕ) (sums : List ℕ) where
       let e : j ≡ m = omega (arith, w.cols.upto) in
       record { sum_is = rw e at w.sum_is; cols = fill_whole _ _ _ w.cols h l }
 
--- the row that starts at the flat place `at` lies within the matrix
-pub row_inside : (n m : ℕ) {cells i at : ℕ} → at ≡ i * m → i < n → Sized n m cells → at + m ≤ cells
-row_inside n m {cells} {i} e h s = omega (arith, row_ends n m i h, e, s.long)
+-- row i lies within the matrix
+pub row_inside : (n m : ℕ) {cells i : ℕ} → i < n → Sized n m cells → i * m + m ≤ cells
+row_inside n m {cells} {i} h s = omega (arith, row_ends n m i h, s.long)
 
 -- ---- a matrix
 
@@ -107,54 +111,57 @@ module _ (cost : List Float) (m : ℕ) (t : Float) (partner : List ℕ) where
 
 -- ---- decided
 
--- at row i, whose first cell is at the flat place `at`
-pub record Summed (cost : List Float) (n m : ℕ) (t : Float) (i at : ℕ) (sums : List ℕ) : Type 0 where
+-- each number is 1 at most where the largest is
+all_low : (f : ℕ → ℕ) (n : ℕ) → list_all (λ s. leb s 1) (tab f n) ≡ leb (most f n) 1
+unfolding tab most
+all_low f zero = refl
+all_low f (suc n) = list_all-append (λ s. leb s 1) (tab f n) (f n ∷ []) ∙ rw (all_low f n) (both (leb (most f n) 1) (leb (f n) 1) refl refl)
+  where
+    both : (u v : Bool) → leb (most f n) 1 ≡ u → leb (f n) 1 ≡ v → (u && (v && true)) ≡ leb (max (most f n) (f n)) 1
+    both true true e g = sym (le-leb _ 1 (omega (arith, leb-true _ 1 e, leb-true _ 1 g)))
+    both true false e g = sym (lt-leb _ 1 (omega (arith, leb-false _ 1 g)))
+    both false v e g = sym (lt-leb _ 1 (omega (arith, leb-false _ 1 e)))
+
+-- at row i
+pub record Summed (cost : List Float) (n m : ℕ) (t : Float) (i : ℕ) (sums : List ℕ) : Type 0 where
   pub low : Low (row_sum cost m t) 1 n i
-  pub place : at ≡ i * m
   pub cols : sums ≡ tab (col_sum cost i m t) m
 
 module _ (cost : List Float) (n m : ℕ) (t : Float) where
-  pub rows-begin : {sums : List ℕ} → Clean m 0 sums → Summed cost n m t 0 0 sums
+  pub rows-begin : {sums : List ℕ} → Clean m 0 sums → Summed cost n m t 0 sums
   rows-begin {sums} z = record {
     low = low-start _ _ _;
-    place = sym (zero-mul m);
     cols = tab_of (col_sum cost 0 m t) sums m 0 z.same (λ (j : ℕ) (h : j < m). z.cells j h ∙ count_none (λ i. mask cost m t i j));
   }
 
-  pub rows_same : {i at : ℕ} {sums : List ℕ} → Summed cost n m t i at sums → length sums ≡ m
+  pub rows_same : {i : ℕ} {sums : List ℕ} → Summed cost n m t i sums → length sums ≡ m
   rows_same {i} w = ap length w.cols ∙ length-tab (col_sum cost i m t) m
 
-  pub rows_in : {i at : ℕ} {sums : List ℕ} → Summed cost n m t i at sums → i < n → Sized n m (length cost) → RowIn (length cost) at m sums
+  pub rows_in : {i : ℕ} {sums : List ℕ} → Summed cost n m t i sums → i < n → Sized n m (length cost) → RowIn m sums
   rows_in {i} w h s = record {
-    inside = row_inside n m w.place h s;
-    few = s.few-cols;
     same = rows_same w;
     small = λ (j : ℕ) (q : j < m). rw (w.cols, tab-at (col_sum cost i m t) m j 0 q) (omega (arith, count-few (λ k. mask cost m t k j) i, s.few-rows));
   }
 
-  pub rows_next : {i at sum : ℕ} {sums sums' : List ℕ} → Summed cost n m t i at sums → i < n
-      → RowOut (above cost t at) m sums sum sums' → sum ≤ 1 → Summed cost n m t (i + 1) (at + m) sums'
-  rows_next {i} {at} {sum} {sums} {sums'} w h q s = let o = rw w.place at q in record {
+  pub rows_next : {i sum : ℕ} {sums sums' : List ℕ} → Summed cost n m t i sums → i < n
+      → RowOut (above cost t (i * m)) m sums sum sums' → sum ≤ 1 → Summed cost n m t (i + 1) sums'
+  rows_next {i} {sum} {sums} {sums'} w h o s = record {
     low = low-on _ _ _ w.low h o.sum_is s;
-    place = ap (λ (k : ℕ). k + m) w.place ∙ sym (row_next i m);
     cols = o.cols ∙ tab_ext (raised (mask cost m t i) sums) (col_sum cost (i + 1) m t) m
         (λ (j : ℕ) (q : j < m). rw (w.cols, tab-at (col_sum cost i m t) m j 0 q) (count-more (λ k. mask cost m t k j) i));
   }
 
   -- a row has more than one cost above the threshold
-  pub direct_no : {i at sum : ℕ} {sums sums' : List ℕ} → Summed cost n m t i at sums → i < n
-      → RowOut (above cost t at) m sums sum sums' → 1 < sum → false ≡ simple cost n m t
+  pub direct_no : {i sum : ℕ} {sums sums' : List ℕ} → i < n → RowOut (above cost t (i * m)) m sums sum sums' → 1 < sum → false ≡ simple cost n m t
   unfolding simple
-  direct_no w h q s = let o = rw w.place at q in rw (high (row_sum cost m t) 1 n h o.sum_is s)
+  direct_no h o s = rw (high (row_sum cost m t) 1 n h o.sum_is s)
 
   -- no row has, and the columns decide
-  pub direct_end : {i at : ℕ} {sums : List ℕ} {r : Bool} → Summed cost n m t i at sums → n ≤ i
-      → r ≡ leb (most (λ j. get_or sums j 0) (length sums)) 1 → r ≡ simple cost n m t
+  pub direct_end : {i : ℕ} {sums : List ℕ} {r : Bool} → Summed cost n m t i sums → n ≤ i → r ≡ list_all (λ s. leb s 1) sums → r ≡ simple cost n m t
   unfolding simple
-  direct_end {i} {at} {sums} {r} w h e =
+  direct_end {i} {sums} {r} w h e =
       let q : i ≡ n = omega (arith, w.low.upto) in
-      let f : (j : ℕ) → j < m → get_or sums j 0 ≡ col_sum cost n m t j = λ (j : ℕ) (b : j < m). rw (w.cols, tab-at (col_sum cost i m t) m j 0 b, q) in
-      e ∙ rw (rows_same w, most_ext (λ j. get_or sums j 0) (col_sum cost n m t) m f, low_end (row_sum cost m t) 1 n w.low h)
+      e ∙ rw (w.cols, all_low, q, low_end (row_sum cost m t) 1 n w.low h)
 
 -- ---- a row's column
 
@@ -184,20 +191,3 @@ module _ (p : ℕ → Bool) (m : ℕ) where
 
 pub column_fits : (p : ℕ → Bool) {m j : ℕ} → j ≡ last_where p m m → m ≤ 255 → j ≤ 255
 column_fits p {m} e h = rw e (le_trans (last-few p m m (le_refl m)) h)
-
-pub column-at : (cost : List Float) (m : ℕ) (t : Float) (i : ℕ) {at j : ℕ} → at ≡ i * m → j ≡ last_where (above cost t at) m m → j ≡ direct_column cost m t i
-column-at cost m t i e f = f ∙ rw e
-
--- ---- a loop over the rows
-
--- at row i, whose first cell is at the flat place `at`
-pub record AtRow (n m i at : ℕ) : Type 0 where
-  pub upto : i ≤ n
-  pub place : at ≡ i * m
-
-module _ (n m : ℕ) where
-  pub first-row : AtRow n m 0 0
-  first-row = record { upto = zero-le; place = sym (zero-mul m) }
-
-  pub next_row : {i at : ℕ} → AtRow n m i at → i < n → AtRow n m (i + 1) (at + m)
-  next_row {i} w h = record { upto = omega arith; place = ap (λ (k : ℕ). k + m) w.place ∙ sym (row_next i m) }

@@ -11,8 +11,7 @@ use borrow.Author.Tests.{leb-true, le-leb}
 use Rattle.laws.specs.Tests.{and_left, and_right, false_not_true}
 use Rattle.laws.specs.Occurs.{occurs-few}
 use Rattle.laws.specs.Over.{over}
-use Rattle.assoc_direct.specs.declared.direct.Directly.{Directly}
-use Rattle.assoc_direct.specs.declared.direct.Directly.TheVariants.{Taken, NotTaken}
+use Rattle.std.proofs.Common.{Option, Some, None}
 use Rattle.assoc_direct.specs.Simple.{Pair, boxes_of, tracks_of, simple, simple_matches}
 use Rattle.assoc_direct.specs.Rows.{Sized, pairs_of, direct_column, PairRoom, Wrote}
 use Rattle.assoc_direct.specs.Direct.{is_matrix, DirectCall, direct_call_of, direct_call_with, direct_call, fitting, direct_pairs}
@@ -35,12 +34,12 @@ module _ (cost : List Float) (n m : ℕ) (t : Float) where
   pub direct_room : {p q : ℕ} → simple cost n m t ≡ true → min n m ≤ p → min n m ≤ q → PairRoom (pairs_of m (direct_column cost m t) n) p q
   direct_room e h l = room (pairs-few m (direct_column cost m t) n (apart-simple cost n m t e)) h l
 
-  pub direct_not : {boxes tracks : List ℕ} → simple cost n m t ≡ false → direct_call_with NotTaken boxes tracks ≡ direct_call cost n m t boxes tracks
+  pub direct_not : {boxes tracks : List ℕ} → simple cost n m t ≡ false → direct_call_with None boxes tracks ≡ direct_call cost n m t boxes tracks
   unfolding direct_call
   direct_not e = rw e
 
   pub direct_done : {k : ℕ} {boxes tracks boxes' tracks' : List ℕ} → simple cost n m t ≡ true
-      → Wrote (pairs_of m (direct_column cost m t) n) boxes tracks k boxes' tracks' → direct_call_with (Taken k) boxes' tracks' ≡ direct_call cost n m t boxes tracks
+      → Wrote (pairs_of m (direct_column cost m t) n) boxes tracks k boxes' tracks' → direct_call_with (Some k) boxes' tracks' ≡ direct_call cost n m t boxes tracks
   unfolding direct_call
   direct_done {k} {boxes} {tracks} {boxes'} {tracks'} e o =
       let q : Wrote (simple_matches cost n m t) boxes tracks k boxes' tracks' = rw (simple-pairs cost n m t e) o in
@@ -52,7 +51,7 @@ module _ (cost : List Float) (n m : ℕ) (t : Float) where
     pub boxes_are : boxes' ≡ boxes
     pub tracks_are : tracks' ≡ tracks
 
-  pub not_open : {d : Directly} {boxes tracks boxes' tracks' : List ℕ} → direct_call_with d boxes' tracks' ≡ direct_call cost n m t boxes tracks → d ≡ NotTaken → NotOpen boxes tracks boxes' tracks'
+  pub not_open : {d : Option ℕ} {boxes tracks boxes' tracks' : List ℕ} → direct_call_with d boxes' tracks' ≡ direct_call cost n m t boxes tracks → d ≡ None → NotOpen boxes tracks boxes' tracks'
   unfolding direct_call
   not_open {d} {boxes} {tracks} {boxes'} {tracks'} e f = by_cases (simple cost n m t) refl (rw f at e)
     where
@@ -84,7 +83,7 @@ module _ (cost : List Float) (n m : ℕ) (t : Float) (boxes tracks : List ℕ) w
   unfolding direct_pairs
   pairs_fit e f d = d ∙ rw (sym e ∙ f)
 
-  pub pairs_misfit : {v : Bool} → v ≡ fitting n m (length cost) (length boxes) (length tracks) → v ≡ false → direct_call_with NotTaken boxes tracks ≡ direct_pairs cost n m t boxes tracks
+  pub pairs_misfit : {v : Bool} → v ≡ fitting n m (length cost) (length boxes) (length tracks) → v ≡ false → direct_call_with None boxes tracks ≡ direct_pairs cost n m t boxes tracks
   unfolding direct_pairs
   pairs_misfit e f = rw (sym e ∙ f)
 

@@ -1,9 +1,7 @@
--- The direct path of `match_detections`: document 01, Pairs. What deciding and writing it says and leaves.
-use Rattle.std.specs.Prelude.{Bool, true, false, cond, not, ◌&&◌, List, ℕ, ◌*◌, min, eqb, leb, Float, length}
+-- The direct path of `match_detections`: what deciding and writing it says and leaves.
+use Rattle.std.specs.Prelude.{Bool, true, false, cond, not, ◌&&◌, List, ℕ, ◌*◌, min, eqb, leb, Float, length, Option, Some, None}
 use Rattle.laws.specs.Over.{over}
 use Rattle.refusals.specs.Refusal.{too_many}
-use Rattle.assoc_direct.specs.declared.direct.Directly.{Directly}
-use Rattle.assoc_direct.specs.declared.direct.Directly.TheVariants.{Taken, NotTaken}
 use Rattle.assoc_direct.specs.Simple.{boxes_of, tracks_of, simple, simple_matches}
 
 -- ---- decided
@@ -28,9 +26,9 @@ abbrev pub direct_call_of : Bool → ℕ → List ℕ → List ℕ → DirectCal
 direct_call_of taken pairs pair_boxes pair_tracks = record { taken = taken; pairs = pairs; pair_boxes = pair_boxes; pair_tracks = pair_tracks }
 
 -- as an answer says it
-abbrev pub direct_call_with : Directly → List ℕ → List ℕ → DirectCall
-direct_call_with (Taken pairs) pair_boxes pair_tracks = direct_call_of true pairs pair_boxes pair_tracks
-direct_call_with NotTaken pair_boxes pair_tracks = direct_call_of false 0 pair_boxes pair_tracks
+abbrev pub direct_call_with : Option ℕ → List ℕ → List ℕ → DirectCall
+direct_call_with (Some pairs) pair_boxes pair_tracks = direct_call_of true pairs pair_boxes pair_tracks
+direct_call_with None pair_boxes pair_tracks = direct_call_of false 0 pair_boxes pair_tracks
 
 -- where it is taken the pairs are over the fronts; elsewhere there are none, and nothing is written
 unfoldable pub direct_call : List Float → ℕ → ℕ → Float → List ℕ → List ℕ → DirectCall

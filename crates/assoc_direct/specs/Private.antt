@@ -1,12 +1,10 @@
 -- What the contracts of the private functions cite. proofs/ shows that it comes to the definition.
-use Rattle.std.specs.Prelude.{◌≡◌, List, Bool, ℕ, ◌+◌, ◌≤◌, ◌<◌, length, get_or}
+use Rattle.std.specs.Prelude.{◌≡◌, List, Bool, ℕ, ◌+◌, ◌<◌, length, get_or}
 use Rattle.laws.specs.Tab.{tab}
 use Rattle.laws.specs.Count.{bit, count_where}
 
 -- what the sum of a row asks: no sum of a column is yet as large as a byte can be
-pub record RowIn (cells at m : ℕ) (sums : List ℕ) : Type 0 where
-  pub inside : at + m ≤ cells
-  pub few : m ≤ 255
+pub record RowIn (m : ℕ) (sums : List ℕ) : Type 0 where
   pub same : length sums ≡ m
   pub small : (j : ℕ) → j < m → get_or sums j 0 < 255
 

@@ -3,25 +3,18 @@
 //
 // It is decided from the costs with a byte for each column, before anything is written. The pairs are then read
 // from the costs again, so that no row's column is held.
-ghost use Rattle.std.specs.Prelude.{◌≡◌, ◌+◌, ◌≤◌, ◌<◌, min, leb, length, get_or};
+ghost use Rattle.std.specs.Prelude.{◌≡◌, ◌+◌, ◌≤◌, ◌<◌, min, leb, length};
 ghost use Rattle.std.specs.Float.Ieee.{lt};
+ghost use Rattle.std.specs.List.{list_all};
 ghost use Rattle.laws.specs.Tab.{tab};
 ghost use Rattle.laws.specs.Count.{bit};
-ghost use Rattle.laws.specs.Most.{most};
-ghost use Rattle.laws.specs.Last.{last_where};
-ghost use Rattle.assoc_direct.specs.Simple.{pair, above, simple};
-ghost use Rattle.assoc_direct.specs.Rows.{Sized, Clean, pairs_of, direct_column, direct_columns, putting, Put, PairRoom, Wrote};
+ghost use Rattle.assoc_direct.specs.Simple.{pair, mask, simple};
+ghost use Rattle.assoc_direct.specs.Rows.{Clean, pairs_of, direct_column, direct_columns, putting, Put, PairRoom, Wrote};
 ghost use Rattle.assoc_direct.specs.Direct.{is_matrix, is_direct, direct_call_with, direct_call, fitting, direct_pairs};
 ghost use Rattle.assoc_direct.specs.Private.{RowIn, RowOut};
 
-use refusals::smaller;
-
-// The number of pairs where the path is taken.
-#[derive(Drop)]
-pub enum Directly {
-    Taken(usize),
-    NotTaken,
-}
+use super::matrix::Matrix;
+use refusals::too_many;
 
 // ---- decided
 
@@ -35,51 +28,36 @@ fn one_more(c: f32, threshold: f32, sum: u8) -> u8
     sum
 }
 
-// How many cells of the row that starts at the flat place `at` are above the threshold: each is added to the sum of
-// its column.
-fn sum_row(cost: &[f32], at: usize, ncols: usize, threshold: f32, sums: &mut [u8]) -> u8
-    requires { RowIn (length cost.now) at ncols sums.old }
-    ensures { RowOut (above cost.now threshold at) ncols sums.old result sums.new }
+// How many cells of row i are above the threshold: each is added to the sum of its column.
+fn sum_row(cost: Matrix, i: usize, threshold: f32, sums: &mut [u8]) -> u8
+    requires row { i < cost.nrows }
+    requires columns { RowIn cost.ncols sums.old }
+    ensures { RowOut (mask cost.entry.cells.now cost.entry.ncols threshold i) cost.entry.ncols sums.old result sums.new }
 {
     let mut sum = 0u8;
-    let mut j = 0;
-    while j < ncols {
-        let c = cost[at + j];
+    for j in 0..cost.ncols {
+        let c = cost.at(i, j);
         sum = one_more(c, threshold, sum);
         sums[j] = one_more(c, threshold, sums[j]);
-        j += 1;
     }
     sum
 }
 
 fn at_most_one(sums: &[u8]) -> bool
-    ensures { result ≡ leb (most (λ j. get_or sums.now j 0) (length sums.now)) 1 }
+    ensures { result ≡ list_all (λ sum. leb sum 1) sums.now }
 {
-    let mut j = 0;
-    while j < sums.len() {
-        let sum = sums[j];
-        if 1 < sum {
-            return false;
-        }
-        j += 1;
-    }
-    true
+    sums.iter().all(|sum| *sum <= 1)
 }
 
-fn is_direct_with(cost: &[f32], nrows: usize, ncols: usize, threshold: f32, sums: &mut [u8]) -> bool
-    requires sides { Sized nrows ncols (length cost.now) }
-    requires zeros { Clean ncols 0 sums.old }
-    ensures { result ≡ simple cost.now nrows ncols threshold }
+fn is_direct_with(cost: Matrix, threshold: f32, sums: &mut [u8]) -> bool
+    requires { Clean cost.ncols 0 sums.old }
+    ensures { result ≡ simple cost.entry.cells.now cost.entry.nrows cost.entry.ncols threshold }
 {
-    let mut i = 0;
-    let mut at = 0;
-    while i < nrows {
-        let sum = sum_row(cost, at, ncols, threshold, sums);
+    for i in 0..cost.nrows {
+        let sum = sum_row(cost, i, threshold, sums);
         if 1 < sum {
             return false;
         }
-        at += ncols;
-        i += 1;
     }
     at_most_one(sums)
 }
@@ -88,10 +66,7 @@ fn is_direct_with(cost: &[f32], nrows: usize, ncols: usize, threshold: f32, sums
 fn is_matrix(nrows: usize, ncols: usize, cells: usize) -> bool
     ensures { result ≡ is_matrix nrows ncols cells }
 {
-    if (255 < nrows) | (255 < ncols) {
-        return false;
-    }
-    cells == nrows * ncols
+    !too_many(nrows, ncols) && cells == nrows * ncols
 }
 
 // Whether no row and no column of the costs has more than one cost above the threshold.
@@ -99,28 +74,31 @@ pub fn is_direct(boxes: usize, tracks: usize, cost: &[f32], threshold: f32) -> b
     ensures { result ≡ is_direct cost.now boxes tracks threshold }
 {
     if is_matrix(boxes, tracks, cost.len()) {
+        let cost = Matrix {
+            cells: cost,
+            nrows: boxes,
+            ncols: tracks,
+        };
         let mut sums = [0u8; 255];
-        return is_direct_with(cost, boxes, tracks, threshold, &mut sums[..tracks]);
+        return is_direct_with(cost, threshold, &mut sums[..tracks]);
     }
     false
 }
 
 // ---- written
 
-// The column of the row that starts at the flat place `at`: the last one above the threshold, or ncols.
-fn column_above(cost: &[f32], at: usize, ncols: usize, threshold: f32) -> usize
-    requires { at + ncols ≤ length cost.now }
-    ensures { result ≡ last_where (above cost.now threshold at) ncols ncols }
+// The column of row i: the last one above the threshold, or ncols.
+fn column_above(cost: Matrix, i: usize, threshold: f32) -> usize
+    requires { i < cost.nrows }
+    ensures { result ≡ direct_column cost.entry.cells.now cost.entry.ncols threshold i }
 {
-    let mut j = ncols;
-    while 0 < j {
-        j -= 1;
-        let c = cost[at + j];
+    for j in (0..cost.ncols).rev() {
+        let c = cost.at(i, j);
         if threshold < c {
             return j;
         }
     }
-    ncols
+    cost.ncols
 }
 
 // Stores the pair i, j at place k, if j is a column and the slices have the place; how many are stored then.
@@ -142,56 +120,40 @@ pub fn put_pair(
     k
 }
 
-fn write_directly(
-    cost: &[f32],
-    nrows: usize,
-    ncols: usize,
-    threshold: f32,
-    boxes: &mut [usize],
-    tracks: &mut [usize],
-) -> usize
-    requires sides { Sized nrows ncols (length cost.now) }
-    requires room { PairRoom (pairs_of ncols (direct_column cost.now ncols threshold) nrows) (length boxes.old) (length tracks.old) }
-    ensures { Wrote (pairs_of ncols (direct_column cost.now ncols threshold) nrows) boxes.old tracks.old result boxes.new tracks.new }
+fn write_directly(cost: Matrix, threshold: f32, boxes: &mut [usize], tracks: &mut [usize]) -> usize
+    requires { PairRoom (pairs_of cost.ncols (direct_column cost.cells.now cost.ncols threshold) cost.nrows) (length boxes.old) (length tracks.old) }
+    ensures { Wrote (pairs_of cost.entry.ncols (direct_column cost.entry.cells.now cost.entry.ncols threshold) cost.entry.nrows) boxes.old tracks.old result boxes.new tracks.new }
 {
     let mut k = 0;
-    let mut i = 0;
-    let mut at = 0;
-    while i < nrows {
-        let j = column_above(cost, at, ncols, threshold);
-        k = put_pair(boxes, tracks, k, i, j, ncols);
-        at += ncols;
-        i += 1;
+    for i in 0..cost.nrows {
+        let j = column_above(cost, i, threshold);
+        k = put_pair(boxes, tracks, k, i, j, cost.ncols);
     }
     k
 }
 
-// Takes the direct path where it is open: the pairs are then over the fronts of the two slices, in row order.
-// Where it is not open nothing is written.
+// Takes the direct path where it is open, and says how many pairs it has: they are then over the fronts of the two
+// slices, in row order. Where it is not open nothing is written.
 fn match_directly(
-    cost: &[f32],
-    nrows: usize,
-    ncols: usize,
+    cost: Matrix,
     threshold: f32,
     boxes: &mut [usize],
     tracks: &mut [usize],
-) -> Directly
-    requires sides { Sized nrows ncols (length cost.now) }
-    requires room { (min nrows ncols ≤ length boxes.old) × (min nrows ncols ≤ length tracks.old) }
-    ensures { direct_call_with result boxes.new tracks.new ≡ direct_call cost.now nrows ncols threshold boxes.old tracks.old }
+) -> Option<usize>
+    requires { (min cost.nrows cost.ncols ≤ length boxes.old) × (min cost.nrows cost.ncols ≤ length tracks.old) }
+    ensures { direct_call_with result boxes.new tracks.new ≡ direct_call cost.entry.cells.now cost.entry.nrows cost.entry.ncols threshold boxes.old tracks.old }
 {
-    if is_direct(nrows, ncols, cost, threshold) {
-        let pairs = write_directly(cost, nrows, ncols, threshold, boxes, tracks);
-        return Directly::Taken(pairs);
+    if is_direct(cost.nrows, cost.ncols, cost.cells, threshold) {
+        return Some(write_directly(cost, threshold, boxes, tracks));
     }
-    Directly::NotTaken
+    None
 }
 
 // Whether the sides are those of the costs, and each slice has as many places as the smaller side.
 fn fits(nrows: usize, ncols: usize, cells: usize, boxes: usize, tracks: usize) -> bool
     ensures { result ≡ fitting nrows ncols cells boxes tracks }
 {
-    let few = smaller(nrows, ncols);
+    let few = nrows.min(ncols);
     is_matrix(nrows, ncols, cells) & ((few <= boxes) & (few <= tracks))
 }
 
@@ -203,28 +165,28 @@ pub fn direct_pairs(
     threshold: f32,
     boxes: &mut [usize],
     tracks: &mut [usize],
-) -> Directly
+) -> Option<usize>
     ensures { direct_call_with result boxes.new tracks.new ≡ direct_pairs cost.now nrows ncols threshold boxes.old tracks.old }
 {
     if fits(nrows, ncols, cost.len(), boxes.len(), tracks.len()) {
-        return match_directly(cost, nrows, ncols, threshold, boxes, tracks);
+        let cost = Matrix {
+            cells: cost,
+            nrows,
+            ncols,
+        };
+        return match_directly(cost, threshold, boxes, tracks);
     }
-    Directly::NotTaken
+    None
 }
 
 // ---- by rows
 
-fn fill_columns(cost: &[f32], ncols: usize, threshold: f32, partner: &mut [u8])
-    requires { Sized (length partner.old) ncols (length cost.now) }
-    ensures { partner.new ≡ tab (direct_column cost.now ncols threshold) (length partner.old) }
+fn fill_columns(cost: Matrix, threshold: f32, partner: &mut [u8])
+    requires { length partner.old ≡ cost.nrows }
+    ensures { partner.new ≡ tab (direct_column cost.entry.cells.now cost.entry.ncols threshold) (length partner.old) }
 {
-    let mut i = 0;
-    let mut at = 0;
-    while i < partner.len() {
-        let j = column_above(cost, at, ncols, threshold);
-        partner[i] = j as u8;
-        at += ncols;
-        i += 1;
+    for (i, place) in partner.iter_mut().enumerate() {
+        *place = column_above(cost, i, threshold) as u8;
     }
 }
 
@@ -234,7 +196,11 @@ pub fn direct_columns(tracks: usize, cost: &[f32], threshold: f32, partner: &mut
     ensures { partner.new ≡ direct_columns cost.now tracks threshold partner.old }
 {
     if is_matrix(partner.len(), tracks, cost.len()) {
-        fill_columns(cost, tracks, threshold, partner);
-        return;
+        let cost = Matrix {
+            cells: cost,
+            nrows: partner.len(),
+            ncols: tracks,
+        };
+        fill_columns(cost, threshold, partner);
     }
 }

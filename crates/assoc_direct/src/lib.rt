@@ -2,5 +2,9 @@
 #![tactic(auto)]
 
 mod direct;
+mod matrix;
+mod pairs;
 
-pub use direct::{Directly, direct_columns, direct_pairs, is_direct, put_pair};
+pub use direct::{direct_columns, direct_pairs, is_direct, put_pair};
+pub use matrix::Matrix;
+pub use pairs::put_pairs;

@@ -1,17 +1,18 @@
 -- mh_dist_similarity as the code takes it, in place and with each exponential computed once, is the definition. Assumes nothing.
-use mathlib.Core.Path.{◌≡◌, refl, sym, ap, ◌∙◌}
+use mathlib.Core.Path.{◌≡◌, refl, ap, ◌∙◌}
 use mathlib.Core.Bool.{Bool, true, false, cond}
-use mathlib.Core.List.{List}
-use Prim.Native.Nat.{ℕ, ◌+◌, ◌*◌, ◌≤◌, ◌<◌, zero-le}
-use native.Mathlib.Nat.{zero-mul}
+use mathlib.Core.List.{List, ◌++◌}
+use Prim.Native.Nat.{ℕ, ◌+◌, ◌-◌, ◌*◌, ◌≤◌, ◌<◌}
+use native.Mathlib.Nat.{add-sub_cancel_left}
 use native.Mathlib.Omega.{arith}
 use lib.Dec.{eqb}
-use lib.ListN.{length, get_or, drop}
+use lib.ListN.{length, get_or, get_or-append, take, drop}
+use lib.Seq.{drop_at, get_or-take, get_or-drop}
 use lib.Ieee.{Float, nan, of_bits, neg, lt}
 use Rattle.laws.specs.Fold.{fold, fold_more, fold_ext}
-use Rattle.laws.specs.Tab.{tab, filled, filled_at, filled-rest, length-tab, tab-at, tab_ext}
+use Rattle.laws.specs.Tab.{tab, length-tab, tab-at, tab_ext}
 use Rattle.laws.specs.Packed.{packed_kept}
-use Rattle.laws.specs.Grid.{cell_at, grid, grid-at, grid-over, grid_ext, row_ends, row_next}
+use Rattle.laws.specs.Grid.{cell_at, grid, grid-at, grid-over, grid_ext, row_ends}
 use Rattle.floats.specs.Single.{◌⊕◌, ◌⊖◌, ◌⊘◌, plus_zero, one}
 use Rattle.floats.specs.Exponential.{exp}
 use Rattle.floats.proofs.Unsigned.{exp_not_below}
@@ -45,36 +46,36 @@ share-is v temp sum = by_test (lt limit v)
 
 -- ---- the sums of the columns
 
--- what a loop that sums the columns of n rows of m cells knows when i rows are added and the next starts at `at`
-pub record Summing (matrix : List Float) (beyond : Float) (n m i at : ℕ) (sums : List Float) : Type 0 where
+-- what a loop that sums the columns of n rows of m cells knows when i rows are added
+pub record Summing (matrix : List Float) (beyond : Float) (n m i : ℕ) (sums : List Float) : Type 0 where
   pub room : n * m ≤ length matrix
-  pub upto : i ≤ n
-  pub place : at ≡ i * m
   pub cells : sums ≡ tab (column_sum beyond (cell_at nan m matrix) i) m
   pub same : length sums ≡ m
 
 module _ {matrix : List Float} {beyond : Float} {n m : ℕ} {sums : List Float} where
-  pub sum-start : n * m ≤ length matrix → sums ≡ tab (λ _. plus_zero) m → Summing matrix beyond n m 0 0 sums
+  pub sum-start : n * m ≤ length matrix → sums ≡ tab (λ _. plus_zero) m → Summing matrix beyond n m 0 sums
   unfolding column_sum fold
-  sum-start r e = record { room = r; upto = zero-le; place = sym (zero-mul m); cells = e; same = ap length e ∙ length-tab _ m }
+  sum-start r e = record { room = r; cells = e; same = ap length e ∙ length-tab _ m }
 
-  module _ {i at : ℕ} (w : Summing matrix beyond n m i at sums) where
-    pub sum_room : i < n → at + length sums ≤ length matrix
-    sum_room h = omega (arith, row_ends n m i h, w.place, w.same, w.room)
+  module _ {i : ℕ} (w : Summing matrix beyond n m i sums) (h : i < n) where
+    pub sum_room : i * m + m ≤ length matrix
+    sum_room = omega (arith, row_ends n m i h, w.room)
 
-    pub sum-on : {next : List Float} → i < n → next ≡ tab (λ j. get_or sums j nan ⊕ summand (get_or matrix (at + j) nan) beyond) (length sums) → Summing matrix beyond n m (i + 1) (at + m) next
+    row_cell : (j : ℕ) → j < m → get_or (take (i * m + m - i * m) (drop (i * m) matrix)) j nan ≡ cell_at nan m matrix i j
+    row_cell j b = get_or-take (i * m + m - i * m) (drop (i * m) matrix) j nan (rw (add-sub_cancel_left (i * m) m) b) ∙ get_or-drop (i * m) matrix j nan
+
+    pub sum-on : {next : List Float} → next ≡ tab (λ j. get_or sums j nan ⊕ summand (get_or (take (i * m + m - i * m) (drop (i * m) matrix)) j nan) beyond) (length sums)
+        → Summing matrix beyond n m (i + 1) next
     unfolding column_sum
-    sum-on {next} h e =
+    sum-on {next} e =
         let added : next ≡ tab (column_sum beyond (cell_at nan m matrix) (i + 1)) m =
-        e ∙ rw (w.same, w.place)
+        e ∙ rw w.same
         (tab_ext _ _ m
-        (λ j b. ap (λ (l : List Float). get_or l j nan ⊕ summand (cell_at nan m matrix i j) beyond) w.cells
-        ∙ ap (λ (x : Float). x ⊕ summand (cell_at nan m matrix i j) beyond) (tab-at _ m j nan b)
+        (λ j b. ap (λ (l : List Float). get_or l j nan ⊕ summand (get_or (take (i * m + m - i * m) (drop (i * m) matrix)) j nan) beyond) w.cells
+        ∙ ap (λ (x : Float). x ⊕ summand (get_or (take (i * m + m - i * m) (drop (i * m) matrix)) j nan) beyond) (tab-at _ m j nan b)
+        ∙ ap (λ (v : Float). column_sum beyond (cell_at nan m matrix) i j ⊕ summand v beyond) (row_cell j b)
         ∙ fold_more (λ sum k. sum ⊕ summand (cell_at nan m matrix k j) beyond) plus_zero i)) in
-        record { room = w.room; upto = omega arith; place = ap (λ (k : ℕ). k + m) w.place ∙ sym (row_next i m); cells = added; same = ap length added ∙ length-tab _ m }
-
-    pub sum-end : n ≤ i → sums ≡ tab (column_sum beyond (cell_at nan m matrix) n) m
-    sum-end h = let e : i ≡ n = omega arith in rw e at w.cells
+        record { room = w.room; cells = added; same = ap length added ∙ length-tab _ m }
 
 -- ---- all of it
 
@@ -111,11 +112,11 @@ unfolding similarity normalized
 similarity_ext d e temp n m h i j hi hj =
     rw (h i j hi hj, fold_ext (λ sum k. sum ⊕ exponential d temp k j) (λ sum k. sum ⊕ exponential e temp k j) plus_zero n (λ sum k b. ap (λ (v : Float). sum ⊕ exp (cond (lt limit v) plus_zero (limit ⊖ v) ⊘ temp)) (h k j b hj)))
 
-pub of_copied : (distance l out : List Float) (temp : Float) (n m : ℕ) → length distance ≡ n * m → out ≡ filled (λ k. get_or distance k nan) l (length distance)
+pub of_copied : (distance l out : List Float) (temp : Float) (n m : ℕ) → length distance ≡ n * m → out ≡ distance ++ drop (length distance) l
     → grid (mh_dist_similarity out temp n m) n m out ≡ grid (mh_dist_similarity distance temp n m) n m l
 of_copied distance l out temp n m e f =
-    let g : out ≡ filled (λ k. get_or distance k nan) l (n * m) = f ∙ ap (filled (λ k. get_or distance k nan) l) e in
+    let rest : drop (n * m) out ≡ drop (n * m) l = rw (f, ← e) (drop_at distance (drop (length distance) l) (length distance) refl) in
     grid_ext (mh_dist_similarity out temp n m) n m out (mh_dist_similarity distance temp n m)
     (similarity_ext (cell_at nan m out) (cell_at nan m distance) temp n m
-    (λ i j hi hj. ap (λ (o : List Float). cell_at nan m o i j) g ∙ filled_at (λ k. get_or distance k nan) l (n * m) (i * m + j) nan (let r = row_ends n m i hi in omega arith)))
-    ∙ packed_kept _ m out l n (ap (λ (o : List Float). drop (n * m) o) g ∙ filled-rest (λ k. get_or distance k nan) l (n * m))
+    (λ i j hi hj. ap (λ (o : List Float). cell_at nan m o i j) f ∙ get_or-append distance _ nan (i * m + j) (let r = row_ends n m i hi in omega arith)))
+    ∙ packed_kept _ m out l n rest

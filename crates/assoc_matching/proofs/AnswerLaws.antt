@@ -1,8 +1,7 @@
 -- What a verdict tells: the sides and the room of an accepted call. Assumes nothing.
-use Rattle.std.proofs.Common.{◌≡◌, ℕ, ◌*◌, ◌≤◌, min, max, false, not, ◌||◌, eqb, ltb, arith, ltb-false, le-ltb, eq-eqb, ne_eqb}
+use Rattle.std.proofs.Common.{◌≡◌, ℕ, ◌*◌, ◌≤◌, min, max, false, not, ◌||◌, eqb, ltb, arith, ltb-false, le-ltb, eq-eqb, ne_eqb, Ok}
 use borrow.Author.Tests.{eqb-false}
 use Rattle.laws.specs.Tests.{or_none}
-use Rattle.refusals.specs.declared.refusal.Verdict.TheVariants.{Accepted}
 use Rattle.refusals.specs.Refusal.{too_many}
 use Rattle.refusals.proofs.Laws.{passed, few-sides, same_size}
 use Rattle.assoc_matching.specs.Partners.{PartnerReady}
@@ -21,7 +20,7 @@ not_none n z = omega arith
 some_not : (n : ℕ) → 1 ≤ n → n ≡ 0 → ⊥
 some_not n h e = omega arith
 
-pub partner-ready : (boxes tracks costs partners work : ℕ) → partner_verdict boxes tracks costs partners work ≡ Accepted → PartnerReady boxes tracks costs partners work
+pub partner-ready : (boxes tracks costs partners work : ℕ) → partner_verdict boxes tracks costs partners work ≡ Ok tt → PartnerReady boxes tracks costs partners work
 unfolding partner_verdict
 partner-ready boxes tracks costs partners work e =
     let n : ℕ = max boxes tracks in
@@ -37,7 +36,7 @@ partner-ready boxes tracks costs partners work e =
     }
 
 -- and no other call is accepted
-pub partner-accepted : {boxes tracks costs partners work : ℕ} → PartnerReady boxes tracks costs partners work → partner_verdict boxes tracks costs partners work ≡ Accepted
+pub partner-accepted : {boxes tracks costs partners work : ℕ} → PartnerReady boxes tracks costs partners work → partner_verdict boxes tracks costs partners work ≡ Ok tt
 unfolding partner_verdict
 partner-accepted {boxes} {tracks} {costs} {partners} {work} h =
     let n : ℕ = max boxes tracks in
@@ -52,7 +51,7 @@ partner-accepted {boxes} {tracks} {costs} {partners} {work} h =
 
 -- ---- match_detections
 
-pub match_ready : (boxes tracks costs pairs partners work : ℕ) → match_verdict boxes tracks costs pairs partners work ≡ Accepted → MatchReady boxes tracks costs pairs partners work
+pub match_ready : (boxes tracks costs pairs partners work : ℕ) → match_verdict boxes tracks costs pairs partners work ≡ Ok tt → MatchReady boxes tracks costs pairs partners work
 unfolding match_verdict
 match_ready boxes tracks costs pairs partners work e =
     let few : ℕ = min boxes tracks in

@@ -1,5 +1,5 @@
 -- For each row its column: what either path leaves, and the pairs in it. Assumes nothing.
-use Rattle.std.proofs.Common.{◌≡◌, ℕ, ◌*◌, ◌<◌, ◌≤◌, min, max, Bool, true, false, cond, List, length, sym, refl, ap, ◌∙◌}
+use Rattle.std.proofs.Common.{◌≡◌, ℕ, ◌*◌, ◌<◌, ◌≤◌, min, max, Bool, true, false, cond, List, length, sym, refl, ap, ◌∙◌, Option, Some, Ok}
 use lib.Ieee.{Float}
 use Rattle.laws.specs.Tab.{tab_ext}
 use Rattle.laws.specs.Tests.{true_not_false}
@@ -7,9 +7,6 @@ use Rattle.laws.specs.Over.{over}
 use Rattle.lapjv.specs.declared.Counts.{Counts}
 use Rattle.assoc_matching.specs.Matching.{Pair, boxes_of, tracks_of, simple, simple_matches, Matched, match_detections}
 use Rattle.assoc_matching.specs.declared.matching.MatchCounts.{MatchCounts}
-use Rattle.assoc_matching.specs.declared.matching.MatchAnswer.TheVariants.{Matched as Found}
-use Rattle.assoc_direct.specs.declared.direct.Directly.{Directly}
-use Rattle.assoc_direct.specs.declared.direct.Directly.TheVariants.{Taken}
 use Rattle.assoc_matching.specs.Answers.{zeroed, MatchLent, match_lent_with, match_lent_after, match_counts, match_call_with}
 use Rattle.assoc_direct.specs.Direct.{is_matrix, DirectCall, direct_call_of, direct_call_with, direct_call, direct_pairs}
 use Rattle.assoc_matching.specs.Partners.{Sized, pairs_of, held, direct_column, direct_columns, solved_column, solved_match, solution, partner_of, Partnered, PairRoom, Wrote}
@@ -28,7 +25,7 @@ whole_is n m f h l = record { side = f; some = rw f h; long = l; long-x = refl; 
 -- written to lent memory, with the work slice cleared
 pub match_left : (a : Matched) (l : MatchLent) {ps : List Pair} {boxes tracks : List ℕ} {work : List Float} {k turns scans : ℕ} → ps ≡ a.matches
     → Wrote ps l.pair_boxes l.pair_tracks k boxes tracks → turns ≡ a.turns → scans ≡ a.scans → work ≡ zeroed l.work
-    → match_call_with (Found (record { pairs = k; turns = turns; scans = scans })) (match_lent_with boxes tracks work) ≡ match_call_with (Found (match_counts a)) (match_lent_after a l)
+    → match_call_with (Ok (record { pairs = k; turns = turns; scans = scans })) (match_lent_with boxes tracks work) ≡ match_call_with (Ok (match_counts a)) (match_lent_after a l)
 match_left a l {ps} {boxes} {tracks} {work} {k} e o f g z =
     let q : Wrote a.matches l.pair_boxes l.pair_tracks k boxes tracks = rw e at o in
     rw (wrote_many q, f, g, q.boxes_are.cells, q.tracks_are.cells, z)
@@ -58,8 +55,8 @@ module _ (cost : List Float) (n m : ℕ) where
 
   pub solved_done : (l : MatchLent) {r : Counts} {partner boxes tracks : List ℕ} {work : List Float} {k : ℕ} → Solution cost n m r partner
       → Wrote (held m partner) l.pair_boxes l.pair_tracks k boxes tracks → work ≡ zeroed l.work
-      → match_call_with (Found (record { pairs = k; turns = r.turns; scans = r.scans })) (match_lent_with boxes tracks work)
-      ≡ match_call_with (Found (match_counts (solved_match cost n m))) (match_lent_after (solved_match cost n m) l)
+      → match_call_with (Ok (record { pairs = k; turns = r.turns; scans = r.scans })) (match_lent_with boxes tracks work)
+      ≡ match_call_with (Ok (match_counts (solved_match cost n m))) (match_lent_after (solved_match cost n m) l)
   solved_done l {r} {partner} w o z =
       match_left (solved_match cost n m) l (held-is m (solved_column cost n m) n partner w.partners) o (ap (λ (k : Counts). k.turns) w.counts) (ap (λ (k : Counts). k.scans) w.counts) z
 
@@ -83,10 +80,10 @@ module _ (cost : List Float) (n m : ℕ) (t : Float) (few-rows : n ≤ 255) (few
   matches-few = rw matches_are (pairs-few m (partner_of cost n m t) n (apart cost n m t few-rows few-cols))
 
   -- a call of match_detections on the direct path
-  pub taken-done : (l : MatchLent) {d : Directly} {k : ℕ} {boxes tracks : List ℕ} {work : List Float} → direct_call_with d boxes tracks ≡ direct_call cost n m t l.pair_boxes l.pair_tracks → d ≡ Taken k
+  pub taken-done : (l : MatchLent) {d : Option ℕ} {k : ℕ} {boxes tracks : List ℕ} {work : List Float} → direct_call_with d boxes tracks ≡ direct_call cost n m t l.pair_boxes l.pair_tracks → d ≡ Some k
       → work ≡ zeroed l.work
-      → match_call_with (Found (record { pairs = k; turns = 0; scans = 0 })) (match_lent_with boxes tracks work)
-      ≡ match_call_with (Found (match_counts (match_detections cost n m t))) (match_lent_after (match_detections cost n m t) l)
+      → match_call_with (Ok (record { pairs = k; turns = 0; scans = 0 })) (match_lent_with boxes tracks work)
+      ≡ match_call_with (Ok (match_counts (match_detections cost n m t))) (match_lent_after (match_detections cost n m t) l)
   unfolding direct_call
   taken-done l {d} {k} {boxes} {tracks} {work} e f z = by_cases (simple cost n m t) refl (rw f at e)
     where
@@ -94,11 +91,11 @@ module _ (cost : List Float) (n m : ℕ) (t : Float) (few-rows : n ≤ 255) (few
           → direct_call_of true k boxes tracks
           ≡ cond v (direct_call_of true (length (simple_matches cost n m t)) (over (boxes_of (simple_matches cost n m t)) l.pair_boxes) (over (tracks_of (simple_matches cost n m t)) l.pair_tracks))
           (direct_call_of false 0 l.pair_boxes l.pair_tracks)
-          → match_call_with (Found (record { pairs = k; turns = 0; scans = 0 })) (match_lent_with boxes tracks work)
-          ≡ match_call_with (Found (match_counts (match_detections cost n m t))) (match_lent_after (match_detections cost n m t) l)
+          → match_call_with (Ok (record { pairs = k; turns = 0; scans = 0 })) (match_lent_with boxes tracks work)
+          ≡ match_call_with (Ok (match_counts (match_detections cost n m t))) (match_lent_after (match_detections cost n m t) l)
       by_cases true s q =
           rw (match_direct cost n m t few-rows few-cols s, z)
-          (ap (λ (x : DirectCall). match_call_with (Found (record { pairs = x.pairs; turns = 0; scans = 0 })) (match_lent_with x.pair_boxes x.pair_tracks (zeroed l.work))) q)
+          (ap (λ (x : DirectCall). match_call_with (Ok (record { pairs = x.pairs; turns = 0; scans = 0 })) (match_lent_with x.pair_boxes x.pair_tracks (zeroed l.work))) q)
       by_cases false s q = absurd (true_not_false (ap (λ (x : DirectCall). x.taken) q))
 
   -- and elsewhere
@@ -107,8 +104,8 @@ module _ (cost : List Float) (n m : ℕ) (t : Float) (few-rows : n ≤ 255) (few
   ready_as w r = rw (w.boxes_are, w.tracks_are) r
 
   pub not_taken-done : (l : MatchLent) {boxes' tracks' boxes tracks : List ℕ} {work : List Float} {r : MatchCounts} → NotOpen cost n m t l.pair_boxes l.pair_tracks boxes' tracks'
-      → match_call_with (Found r) (match_lent_with boxes tracks work)
-      ≡ match_call_with (Found (match_counts (solved_match cost n m))) (match_lent_after (solved_match cost n m) (match_lent_with boxes' tracks' l.work))
-      → match_call_with (Found r) (match_lent_with boxes tracks work)
-      ≡ match_call_with (Found (match_counts (match_detections cost n m t))) (match_lent_after (match_detections cost n m t) l)
+      → match_call_with (Ok r) (match_lent_with boxes tracks work)
+      ≡ match_call_with (Ok (match_counts (solved_match cost n m))) (match_lent_after (solved_match cost n m) (match_lent_with boxes' tracks' l.work))
+      → match_call_with (Ok r) (match_lent_with boxes tracks work)
+      ≡ match_call_with (Ok (match_counts (match_detections cost n m t))) (match_lent_after (match_detections cost n m t) l)
   not_taken-done l w q = rw (match_solved cost n m t few-rows few-cols w.path) (rw (w.boxes_are, w.tracks_are) at q)

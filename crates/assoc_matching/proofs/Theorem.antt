@@ -1,12 +1,11 @@
 -- Where the direct path is taken, and what holds of an accepted call of match_detections, of the definitions alone. Assumes nothing.
-use Rattle.std.proofs.Common.{◌≡◌, ℕ, ◌≤◌, max, Bool, true, false, cond, List, length, sym, refl, ap, ◌∙◌}
+use Rattle.std.proofs.Common.{◌≡◌, ℕ, ◌≤◌, max, Bool, true, false, cond, List, length, sym, refl, ap, ◌∙◌, Ok}
 use native.Mathlib.Nat.{le-max_left, le-max_right}
 use lib.Ieee.{Float}
 use Rattle.laws.specs.Tests.{and_left, and_right}
 use Rattle.laws.specs.Over.{over}
 use Rattle.lapjv_definition.specs.Lapjv.{lapjv}
 use Rattle.refusals.proofs.Laws.{accepted_of}
-use Rattle.refusals.specs.declared.refusal.Verdict.TheVariants.{Accepted}
 use Rattle.assoc_matching.specs.Matching.{Pair, boxes_of, tracks_of, simple, simple_matches, cost_vec, matched, match_detections}
 use Rattle.assoc_matching.specs.Direct.{OneAbove, by_lapjv, is_matrix, is_direct, direct_call_of, direct_call}
 use Rattle.assoc_matching.specs.Account.{OneToOne}
@@ -65,7 +64,7 @@ module _ (cost : List Float) (nrows ncols : ℕ) (threshold : Float) where
 
 module _ (boxes tracks : ℕ) (cost : List Float) (threshold : Float) (l : MatchLent) where
   -- its number is 0 only where no condition of a refusal holds
-  pub match_passes : (match_call boxes tracks cost threshold l).number ≡ 0 → match_verdict boxes tracks (length cost) (length l.pair_boxes) (length l.pair_tracks) (length l.work) ≡ Accepted
+  pub match_passes : (match_call boxes tracks cost threshold l).number ≡ 0 → match_verdict boxes tracks (length cost) (length l.pair_boxes) (length l.pair_tracks) (length l.work) ≡ Ok tt
   unfolding match_call
   match_passes e = accepted_of _ e
 

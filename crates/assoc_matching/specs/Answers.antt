@@ -1,29 +1,25 @@
--- What a call of lapjv_partners or of match_detections says and leaves in lent memory: document 01, "When a call is turned down", Pairs.
-use Rattle.std.specs.Prelude.{ℕ, ◌*◌, min, max, not, ◌||◌, List, length, ◌==◌, from_bits, nat_lt, Float}
+-- What a call of lapjv_partners or of match_detections says and leaves in lent memory.
+use Rattle.std.specs.Prelude.{⊤, ℕ, ◌*◌, min, max, not, ◌||◌, List, length, ◌==◌, from_bits, nat_lt, Float, Result, Ok, Err}
 use Rattle.std.specs.Float.{binary64}
 use Rattle.laws.specs.Tab.{tab}
 use Rattle.laws.specs.Over.{over}
 use Rattle.lapjv.specs.declared.Counts.{Counts}
-use Rattle.refusals.specs.declared.refusal.Verdict.{Verdict}
+use Rattle.refusals.specs.declared.refusal.Refusal.{Refusal}
 use Rattle.refusals.specs.Refusal.{number, verdict_number, too_many, verdict, where_accepted}
 use Rattle.assoc_matching.specs.declared.matching.MatchCounts.{MatchCounts}
-use Rattle.assoc_matching.specs.declared.matching.MatchAnswer.{MatchAnswer}
-use Rattle.assoc_matching.specs.declared.matching.MatchAnswer.TheVariants as match-answer
-use Rattle.assoc_matching.specs.declared.matching.PartnerAnswer.{PartnerAnswer}
-use Rattle.assoc_matching.specs.declared.matching.PartnerAnswer.TheVariants as partner-answer
 use Rattle.assoc_matching.specs.Matching.{boxes_of, tracks_of, Matched, match_detections}
 use Rattle.assoc_matching.specs.Partners.{counts_of, solution, solved_column}
 
 -- ---- a call
 
--- what a call says, document 01's number, 0 where it is accepted, and its counts; and what it leaves of what it was lent
+-- what a call says, the number of its refusal, 0 where it is accepted, and its counts; and what it leaves of what it was lent
 pub record Call (Counts Lent : Type 0) : Type 0 where
   pub number : ℕ
   pub counts : Counts
   pub lent : Lent
 
 -- by its verdict: these counts and this memory where it is accepted; a refused call has no counts and changes nothing
-abbrev pub call_by : {C L : Type 0} → Verdict → C → L → C → L → Call C L
+abbrev pub call_by : {C L : Type 0} → Result ⊤ Refusal → C → L → C → L → Call C L
 call_by v counts after none before = record { number = verdict_number v; counts = where_accepted v counts none; lent = where_accepted v after before }
 
 abbrev pub zeroed : List Float → List Float
@@ -43,19 +39,19 @@ abbrev pub no_partner_counts : Counts
 no_partner_counts = record { turns = 0; scans = 0 }
 
 -- what an answer says
-abbrev pub partner_number : PartnerAnswer → ℕ
-partner_number (partner-answer.Found c) = 0
-partner_number (partner-answer.Refused why) = number why
+abbrev pub partner_number : Result Counts Refusal → ℕ
+partner_number (Ok c) = 0
+partner_number (Err why) = number why
 
-abbrev pub partner_values : PartnerAnswer → Counts
-partner_values (partner-answer.Found c) = c
-partner_values (partner-answer.Refused why) = no_partner_counts
+abbrev pub partner_values : Result Counts Refusal → Counts
+partner_values (Ok c) = c
+partner_values (Err why) = no_partner_counts
 
-abbrev pub partner_call_with : PartnerAnswer → PartnerLent → Call Counts PartnerLent
+abbrev pub partner_call_with : Result Counts Refusal → PartnerLent → Call Counts PartnerLent
 partner_call_with r l = record { number = partner_number r; counts = partner_values r; lent = l }
 
 -- from the lengths of the cost matrix, of the partners and of the work slice: lapjv solves no square without a cell
-unfoldable pub partner_verdict : ℕ → ℕ → ℕ → ℕ → ℕ → Verdict
+unfoldable pub partner_verdict : ℕ → ℕ → ℕ → ℕ → ℕ → Result ⊤ Refusal
 partner_verdict boxes tracks costs partners work =
     let n = max boxes tracks in
     verdict
@@ -91,19 +87,19 @@ abbrev pub no_match_counts : MatchCounts
 no_match_counts = record { pairs = 0; turns = 0; scans = 0 }
 
 -- what an answer says
-abbrev pub match_number : MatchAnswer → ℕ
-match_number (match-answer.Matched c) = 0
-match_number (match-answer.Refused why) = number why
+abbrev pub match_number : Result MatchCounts Refusal → ℕ
+match_number (Ok c) = 0
+match_number (Err why) = number why
 
-abbrev pub match_values : MatchAnswer → MatchCounts
-match_values (match-answer.Matched c) = c
-match_values (match-answer.Refused why) = no_match_counts
+abbrev pub match_values : Result MatchCounts Refusal → MatchCounts
+match_values (Ok c) = c
+match_values (Err why) = no_match_counts
 
-abbrev pub match_call_with : MatchAnswer → MatchLent → Call MatchCounts MatchLent
+abbrev pub match_call_with : Result MatchCounts Refusal → MatchLent → Call MatchCounts MatchLent
 match_call_with r l = record { number = match_number r; counts = match_values r; lent = l }
 
 -- from the lengths of the cost matrix, of the two halves of the pairs and of the work slice
-unfoldable pub match_verdict : ℕ → ℕ → ℕ → ℕ → ℕ → ℕ → Verdict
+unfoldable pub match_verdict : ℕ → ℕ → ℕ → ℕ → ℕ → ℕ → Result ⊤ Refusal
 match_verdict boxes tracks costs pair_boxes pair_tracks work =
     let few = min boxes tracks in
     let n = max boxes tracks in

@@ -1,5 +1,5 @@
 -- `match_detections` of assoc.rs, lines 448-532: pairs of boxes (rows) and tracks (columns) from a matrix of costs, flat and row by row.
-use Rattle.std.specs.Prelude.{◌≡◌, ℕ, ◌+◌, ◌*◌, max, Bool, true, false, cond, ◌&&◌, ◌||◌, List, [], length, pos, ◌==◌, nat_lt, slice_index, slice_index_or, refl, Float}
+use Rattle.std.specs.Prelude.{⊤, Result, Ok, Err, ◌≡◌, ℕ, ◌+◌, ◌*◌, max, Bool, true, false, cond, ◌&&◌, ◌||◌, List, [], length, pos, ◌==◌, nat_lt, slice_index, slice_index_or, refl, Float}
 use Rattle.std.specs.Float.{nan, binary64}
 use Rattle.std.specs.Float.Ieee.{sub, mul, neg, of_bits, of_int, round}
 use Rattle.laws.specs.Tab.{tab}
@@ -7,8 +7,7 @@ use Rattle.laws.specs.Sieve.{maybe}
 use Rattle.laws.specs.Joined.{joined}
 use Rattle.lapjv_definition.specs.Lapjv.{lapjv}
 use Rattle.lapjv.specs.Answers.{verdict_of}
-use Rattle.lapjv.specs.declared.Verdict.{Verdict}
-use Rattle.lapjv.specs.declared.Verdict.TheVariants.{Fits, Unfit}
+use Rattle.lapjv.specs.declared.Refusal.{Refusal}
 -- the pairs, and the simple one_to_one matching with its test
 pub use Rattle.assoc_direct.specs.Simple.{Pair, pair, boxes_of, tracks_of, mask, row_sum, col_sum}
 unfoldable pub use Rattle.assoc_direct.specs.Simple.{above, simple, simple_matches}
@@ -52,9 +51,9 @@ pub record Matched : Type 0 where
 abbrev pub matched : List Pair → ℕ → ℕ → Matched
 matched matches turns scans = record { matches = matches; turns = turns; scans = scans }
 
-abbrev pub unfit : Verdict → Bool
-unfit Fits = false
-unfit (Unfit why) = true
+abbrev pub unfit : Result ⊤ Refusal → Bool
+unfit (Ok _) = false
+unfit (Err why) = true
 
 -- lapjv(&mut cost_vec, &mut x, &mut y).is_err(), with x and y of n entries: the sizes do not fit, or its ret is above 0
 unfoldable pub is_err : ℕ → List Float → Bool

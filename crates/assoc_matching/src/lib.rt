@@ -3,7 +3,5 @@
 
 mod matching;
 
-pub use assoc_direct::{direct_columns, is_direct, put_pair};
-pub use matching::{
-    MatchAnswer, MatchCounts, PartnerAnswer, clear, lapjv_partners, match_detections,
-};
+pub use assoc_direct::{Matrix, direct_columns, is_direct, put_pair, put_pairs};
+pub use matching::{MatchCounts, lapjv_partners, match_detections};

@@ -5,7 +5,7 @@ ghost use Rattle.assoc_similarity.specs.Overlap.{box_at};
 use assoc_boxes::overlap::{BoundingBox, bounding_box};
 
 // Box i.
-pub(crate) fn box_at(s: &[f32], i: usize) -> BoundingBox
+pub fn box_at(s: &[f32], i: usize) -> BoundingBox
     requires { i * 4 + 4 ≤ length s.now }
     ensures { result ≡ box_at s.now i }
 {

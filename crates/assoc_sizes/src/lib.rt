@@ -2,17 +2,9 @@
 #![tactic(auto)]
 
 ghost use Rattle.std.specs.Prelude.{◌≡◌};
-ghost use Rattle.refusals.specs.Refusal.{too_many};
 ghost use Rattle.assoc_sizes.specs.Sizes as Sizes;
 
-use refusals::{Refusal, Verdict};
-
-// 31 before 32 and 33, so that no product is taken of sides above 255.
-fn too_many(boxes: usize, tracks: usize) -> bool
-    ensures { result ≡ too_many boxes tracks }
-{
-    (boxes > 255) | (tracks > 255)
-}
+use refusals::{Refusal, too_many};
 
 // The verdict on a matrix over two lists of corners, of the lengths given.
 pub fn of_corners(
@@ -21,19 +13,19 @@ pub fn of_corners(
     detections: usize,
     corners: usize,
     out: usize,
-) -> Verdict
+) -> Result<(), Refusal>
     ensures { result ≡ Sizes.of_corners boxes tracks detections corners out }
 {
     if too_many(boxes, tracks) {
-        return Verdict::Refused(Refusal::TooMany);
+        return Err(Refusal::TooMany);
     }
     if (detections != boxes * 4) | (corners != tracks * 4) {
-        return Verdict::Refused(Refusal::OtherSize);
+        return Err(Refusal::OtherSize);
     }
     if out < boxes * tracks {
-        return Verdict::Refused(Refusal::TooShort);
+        return Err(Refusal::TooShort);
     }
-    Verdict::Accepted
+    Ok(())
 }
 
 // The same with a list of confidences, one for each track.
@@ -44,43 +36,43 @@ pub fn of_confidences(
     corners: usize,
     confidences: usize,
     out: usize,
-) -> Verdict
+) -> Result<(), Refusal>
     ensures { result ≡ Sizes.of_confidences boxes tracks detections corners confidences out }
 {
     if too_many(boxes, tracks) {
-        return Verdict::Refused(Refusal::TooMany);
+        return Err(Refusal::TooMany);
     }
     if confidences != tracks {
-        return Verdict::Refused(Refusal::OtherSize);
+        return Err(Refusal::OtherSize);
     }
     of_corners(boxes, tracks, detections, corners, out)
 }
 
 // The verdict on a matrix that is worked in place.
-pub fn of_cells(boxes: usize, tracks: usize, cells: usize) -> Verdict
+pub fn of_cells(boxes: usize, tracks: usize, cells: usize) -> Result<(), Refusal>
     ensures { result ≡ Sizes.of_cells boxes tracks cells }
 {
     if too_many(boxes, tracks) {
-        return Verdict::Refused(Refusal::TooMany);
+        return Err(Refusal::TooMany);
     }
     if cells < boxes * tracks {
-        return Verdict::Refused(Refusal::TooShort);
+        return Err(Refusal::TooShort);
     }
-    Verdict::Accepted
+    Ok(())
 }
 
 // The verdict on a matrix over another matrix of the same sides.
-pub fn of_distances(boxes: usize, tracks: usize, distance: usize, out: usize) -> Verdict
+pub fn of_distances(boxes: usize, tracks: usize, distance: usize, out: usize) -> Result<(), Refusal>
     ensures { result ≡ Sizes.of_distances boxes tracks distance out }
 {
     if too_many(boxes, tracks) {
-        return Verdict::Refused(Refusal::TooMany);
+        return Err(Refusal::TooMany);
     }
     if distance != boxes * tracks {
-        return Verdict::Refused(Refusal::OtherSize);
+        return Err(Refusal::OtherSize);
     }
     if out < distance {
-        return Verdict::Refused(Refusal::TooShort);
+        return Err(Refusal::TooShort);
     }
-    Verdict::Accepted
+    Ok(())
 }

@@ -9,7 +9,7 @@
 // to 5 are the seed in two halves, the spread and the step, and 6 to 21 the patterns.
 #![tactic(auto)]
 
-use assoc::{AssignmentAnswer, AssociateParams, MatchAnswer};
+use assoc::{AssignmentCounts, AssociateParams, MatchCounts, Refusal};
 use vectors::held::hold;
 use vectors::line::Line;
 use vectors::{input, lent, part};
@@ -17,24 +17,24 @@ use vectors_digest::digest;
 use vectors_digest::floats::float;
 
 // 0 and the counts of a call that is accepted; the number of a refusal.
-fn matched(line: Line, answer: MatchAnswer) -> Line {
+fn matched(line: Line, answer: Result<MatchCounts, Refusal>) -> Line {
     match answer {
-        MatchAnswer::Matched(c) => {
+        Ok(c) => {
             let pairs = line.number(0).number(c.pairs as u64);
             pairs.number(c.turns as u64).number(c.scans as u64)
         }
-        MatchAnswer::Refused(why) => line.number(why.number() as u64),
+        Err(why) => line.number(u32::from(why) as u64),
     }
 }
 
-fn assigned(line: Line, answer: AssignmentAnswer) -> Line {
+fn assigned(line: Line, answer: Result<AssignmentCounts, Refusal>) -> Line {
     match answer {
-        AssignmentAnswer::Assigned(c) => {
+        Ok(c) => {
             let pairs = line.number(0).number(c.pairs as u64);
             let lists = pairs.number(c.detections as u64).number(c.tracks as u64);
             lists.number(c.turns as u64).number(c.scans as u64)
         }
-        AssignmentAnswer::Refused(why) => line.number(why.number() as u64),
+        Err(why) => line.number(u32::from(why) as u64),
     }
 }
 
@@ -59,9 +59,10 @@ fn inputs(w: &[u64; 25], held: &[f32]) -> u64 {
 }
 
 // A matrix of 7s is lent.
+// Kept: a call is picked by the number that stands for it in standard input.
 fn matrix(kind: u32, w: &[u64; 25], held: &[f32]) {
     let mut cells = [7.0f32; 65027];
-    let out = lent::floats(&mut cells, w[18]);
+    let out = lent::first(&mut cells, w[18]);
     let n = part::whole(w[0], w[1]) as usize;
     let m = w[2] as usize;
     let a = part::floats(held, w[8], w[9]);
@@ -74,12 +75,15 @@ fn matrix(kind: u32, w: &[u64; 25], held: &[f32]) {
         3 => assoc_similarity::shape_similarity_v2(n, m, a, b, out),
         _ => assoc_similarity::mh_dist_similarity(n, m, a, float(w[4]), out),
     };
-    let said = Line::titled().bar().number(verdict.number() as u64);
+    let said = Line::titled()
+        .bar()
+        .number(verdict.map_or_else(u32::from, |()| 0) as u64);
     let given = said.bar().digest(inputs(w, held));
     given.digest(digest::floats(digest::START, out)).print();
 }
 
 // Lists of 7777s and work slices of 1s are lent.
+// Kept: a call is picked by the number that stands for it in standard input.
 fn pairs(kind: u32, w: &[u64; 25], held: &[f32]) {
     let mut pairs = [7777usize; 257];
     let mut more = [7777usize; 257];
@@ -93,12 +97,12 @@ fn pairs(kind: u32, w: &[u64; 25], held: &[f32]) {
     input::words(if kind == 7 { 2 } else { 0 }, 0, &mut l);
     let x = input::bytes(&mut of_boxes, l[0]);
     let y = input::bytes(&mut of_tracks, l[1]);
-    let p = lent::numbers(&mut pairs, w[19]);
-    let q = lent::numbers(&mut more, w[20]);
-    let r = lent::numbers(&mut boxes, w[21]);
-    let s = lent::numbers(&mut tracks, w[22]);
-    let u = lent::doubles(&mut doubles, w[23]);
-    let v = lent::floats(&mut floats, w[24]);
+    let p = lent::first(&mut pairs, w[19]);
+    let q = lent::first(&mut more, w[20]);
+    let r = lent::first(&mut boxes, w[21]);
+    let s = lent::first(&mut tracks, w[22]);
+    let u = lent::first(&mut doubles, w[23]);
+    let v = lent::first(&mut floats, w[24]);
     let n = part::whole(w[0], w[1]) as usize;
     let m = w[2] as usize;
     let a = part::floats(held, w[8], w[9]);
@@ -126,6 +130,7 @@ fn pairs(kind: u32, w: &[u64; 25], held: &[f32]) {
 }
 
 // One record; false where there is none left.
+// Kept: what a record is stands in standard input as a number.
 fn replay(held: &mut [f32; 198154]) -> bool {
     let kind = input::word_or(10);
     let mut w = [0u64; 25];
@@ -138,11 +143,12 @@ fn replay(held: &mut [f32; 198154]) -> bool {
     kind < 10
 }
 
-// A proved loop has to end, and nothing says that the input does: the count is one that no run uses up.
+// A proved loop has to end, and nothing says that the input does: the range is one that no run uses up.
 fn main() {
     let mut held = [0.0f32; 198154];
-    let mut records = u64::MAX;
-    while records > 0 && replay(&mut held) {
-        records -= 1;
+    for _ in 0..u64::MAX {
+        if !replay(&mut held) {
+            return;
+        }
     }
 }

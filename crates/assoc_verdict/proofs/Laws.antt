@@ -10,16 +10,17 @@ use lib.ListN.{length}
 use borrow.Author.Tests.{ltb-false, eq-eqb}
 use Rattle.laws.specs.Tests.{or_none}
 use Rattle.assoc_cost.specs.declared.cost.AssociateParams.{AssociateParams}
-use Rattle.refusals.specs.declared.refusal.Verdict.TheVariants.{Accepted}
+use Rattle.std.proofs.Common.{Ok}
 use Rattle.refusals.specs.Refusal.{too_many}
 use Rattle.refusals.proofs.Laws.{passed, labelled-passed, few-sides, same_size}
-use Rattle.assoc_assignment.specs.Answers.{Room, assignment_short, assignment_verdict}
+use Rattle.assoc_assignment.specs.declared.assignment.Room.{Room}
+use Rattle.assoc_assignment.specs.Answers.{assignment_short, assignment_verdict}
 use Rattle.assoc_verdict.specs.Verdict.{other_size, other_labels, associate_short, within_verdict, associate_sizes, associate_verdict, Cornered}
 
 -- what an accepted call has been found to hold: corners that fit, and what linear_assignment accepts
 pub record AssociateReady (boxes tracks detections corners : ℕ) (room : Room) (work64 work32 : ℕ) : Type 0 where
   pub cornered : Cornered boxes tracks detections corners work32
-  pub assigned : assignment_verdict boxes tracks (boxes * tracks) (boxes * tracks) room work64 ≡ Accepted
+  pub assigned : assignment_verdict boxes tracks (boxes * tracks) (boxes * tracks) room work64 ≡ Ok tt
 
 module _ (params : AssociateParams) (boxes tracks detections corners track_confidence detection_confidence : ℕ) (room : Room) (work64 work32 : ℕ) where
   -- past the tests of its own, within_verdict leaves the rest to linear_assignment's
@@ -38,7 +39,7 @@ module _ (params : AssociateParams) (boxes tracks detections corners track_confi
   sizes_rest mahalanobis box_labels track_labels e f g = rw (e, f, g)
 
   -- what an accepted call knows
-  pub within-ready : within_verdict params boxes tracks detections corners track_confidence detection_confidence room work64 work32 ≡ Accepted
+  pub within-ready : within_verdict params boxes tracks detections corners track_confidence detection_confidence room work64 work32 ≡ Ok tt
       → AssociateReady boxes tracks detections corners room work64 work32
   unfolding within_verdict
   within-ready e =
@@ -55,7 +56,7 @@ module _ (params : AssociateParams) (boxes tracks detections corners track_confi
       }
 
   sizes_ready : (mahalanobis box_labels track_labels : ℕ)
-      → associate_sizes params boxes tracks detections corners mahalanobis track_confidence detection_confidence box_labels track_labels room work64 work32 ≡ Accepted
+      → associate_sizes params boxes tracks detections corners mahalanobis track_confidence detection_confidence box_labels track_labels room work64 work32 ≡ Ok tt
       → AssociateReady boxes tracks detections corners room work64 work32 × (params.has_mahalanobis ≡ true → mahalanobis ≡ boxes * tracks)
   unfolding associate_sizes
   sizes_ready mahalanobis box_labels track_labels e =
@@ -69,7 +70,7 @@ module _ (params : AssociateParams) (boxes tracks detections corners track_confi
       )
 
   pub associate-ready : (mahalanobis : ℕ) (box_labels track_labels : List ℕ)
-      → associate_verdict params boxes tracks detections corners mahalanobis track_confidence detection_confidence box_labels track_labels room work64 work32 ≡ Accepted
+      → associate_verdict params boxes tracks detections corners mahalanobis track_confidence detection_confidence box_labels track_labels room work64 work32 ≡ Ok tt
       → AssociateReady boxes tracks detections corners room work64 work32 × (params.has_mahalanobis ≡ true → mahalanobis ≡ boxes * tracks)
   unfolding associate_verdict
   associate-ready mahalanobis box_labels track_labels e = sizes_ready mahalanobis (length box_labels) (length track_labels) (labelled-passed _ _ e).0

@@ -1,11 +1,12 @@
--- The verdict on a call of associate: document 01, "When a call is turned down", Pairs, and document 02, N2: "34 such a label in associating, the one pairing
--- routine that takes labels, after 33; label slices count under 32."
-use Rattle.std.specs.Prelude.{◌≡◌, Bool, not, ◌&&◌, ◌||◌, List, ℕ, ◌*◌, ◌≤◌, max, ltb, eqb, length}
+-- The verdict on a call of associate, the one pairing routine that takes labels: label slices of another size count with the other sizes, and a label other than 1 to 3 is looked for
+-- after everything else.
+use Rattle.std.specs.Prelude.{⊤, Result, ◌≡◌, Bool, not, ◌&&◌, ◌||◌, List, ℕ, ◌*◌, ◌≤◌, max, ltb, eqb, length}
 use Rattle.labels.specs.Label.{unlabelled}
-use Rattle.refusals.specs.declared.refusal.Verdict.{Verdict}
+use Rattle.refusals.specs.declared.refusal.Refusal.{Refusal}
 use Rattle.refusals.specs.Refusal.{too_many, verdict, labelled_too}
 use Rattle.assoc_cost.specs.declared.cost.AssociateParams.{AssociateParams}
-use Rattle.assoc_assignment.specs.Answers.{Room, assignment_short}
+use Rattle.assoc_assignment.specs.declared.assignment.Room.{Room}
+use Rattle.assoc_assignment.specs.Answers.{assignment_short}
 
 -- ---- from the lengths of what is given and lent
 
@@ -21,7 +22,7 @@ associate_short boxes tracks room work64 work32 =
     let n = max boxes tracks in
     ltb work32 (4 * (n * n)) || assignment_short boxes tracks room work64
 
-unfoldable pub within_verdict : AssociateParams → ℕ → ℕ → ℕ → ℕ → ℕ → ℕ → Room → ℕ → ℕ → Verdict
+unfoldable pub within_verdict : AssociateParams → ℕ → ℕ → ℕ → ℕ → ℕ → ℕ → Room → ℕ → ℕ → Result ⊤ Refusal
 within_verdict params boxes tracks detections corners track_confidence detection_confidence room work64 work32 =
     verdict
     (too_many boxes tracks)
@@ -33,7 +34,7 @@ abbrev pub other_labels : ℕ → ℕ → ℕ → ℕ → Bool
 other_labels boxes tracks box_labels track_labels = not (eqb box_labels boxes) || not (eqb track_labels tracks)
 
 -- with distances and labels
-unfoldable pub associate_sizes : AssociateParams → ℕ → ℕ → ℕ → ℕ → ℕ → ℕ → ℕ → ℕ → ℕ → Room → ℕ → ℕ → Verdict
+unfoldable pub associate_sizes : AssociateParams → ℕ → ℕ → ℕ → ℕ → ℕ → ℕ → ℕ → ℕ → ℕ → Room → ℕ → ℕ → Result ⊤ Refusal
 associate_sizes params boxes tracks detections corners mahalanobis track_confidence detection_confidence box_labels track_labels room work64 work32 =
     verdict
     (too_many boxes tracks)
@@ -42,7 +43,7 @@ associate_sizes params boxes tracks detections corners mahalanobis track_confide
     (associate_short boxes tracks room work64 work32)
 
 -- and from the labels: any of either side, also where the other side is 0
-unfoldable pub associate_verdict : AssociateParams → ℕ → ℕ → ℕ → ℕ → ℕ → ℕ → ℕ → List ℕ → List ℕ → Room → ℕ → ℕ → Verdict
+unfoldable pub associate_verdict : AssociateParams → ℕ → ℕ → ℕ → ℕ → ℕ → ℕ → ℕ → List ℕ → List ℕ → Room → ℕ → ℕ → Result ⊤ Refusal
 associate_verdict params boxes tracks detections corners mahalanobis track_confidence detection_confidence box_labels track_labels room work64 work32 =
     labelled_too
     (associate_sizes params boxes tracks detections corners mahalanobis track_confidence detection_confidence (length box_labels) (length track_labels) room work64 work32)

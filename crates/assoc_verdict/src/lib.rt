@@ -3,4 +3,4 @@
 
 mod verdict;
 
-pub use verdict::{associate_verdict, within_verdict};
+pub use verdict::{Lengths, associate_verdict, within_verdict};

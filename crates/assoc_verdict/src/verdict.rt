@@ -1,126 +1,84 @@
 // The verdict on a call of associate, from the lengths of what it is given and lent, and from the labels.
-ghost use Rattle.std.specs.Prelude.{◌≡◌, ◌||◌, ◌≤◌, length};
+ghost use Rattle.std.specs.Prelude.{◌≡◌, ◌≤◌, length};
 ghost use Rattle.labels.specs.Label as Label;
-ghost use Rattle.refusals.specs.declared.refusal.Verdict.TheVariants.{Accepted};
-ghost use Rattle.refusals.specs.Refusal.{labelled_too};
-ghost use Rattle.assoc_assignment.specs.Answers.{room_with};
 ghost use Rattle.assoc_verdict.specs.Verdict.{other_size, within_verdict, associate_sizes, associate_verdict};
 
-use assoc_assignment::assignment_verdict;
+use assoc_assignment::{Room, assignment_verdict};
 use assoc_cost::AssociateParams;
 use labels::first_unlabelled;
-use refusals::{Refusal, Verdict, larger};
+use refusals::Refusal;
 
-fn other_size(
-    params: AssociateParams,
-    boxes: usize,
-    tracks: usize,
-    detections: usize,
-    corners: usize,
-    track_confidence: usize,
-    detection_confidence: usize,
-) -> bool
-    requires { (boxes ≤ 255) × (tracks ≤ 255) }
-    ensures { result ≡ other_size params boxes tracks detections corners track_confidence detection_confidence }
+// How many boxes and tracks a call has, and how long the lists are that it is given of them.
+// Kept: a call says its sides apart from the lengths of its slices, and one that differs is refused.
+#[derive(Clone, Copy, Debug, PartialEq, Eq)]
+pub struct Lengths {
+    pub boxes: usize,
+    pub tracks: usize,
+    pub detections: usize,
+    pub corners: usize,
+    pub track_confidence: usize,
+    pub detection_confidence: usize,
+}
+
+fn other_size(params: AssociateParams, lengths: Lengths) -> bool
+    requires { (lengths.boxes ≤ 255) × (lengths.tracks ≤ 255) }
+    ensures { result ≡ other_size params lengths.boxes lengths.tracks lengths.detections lengths.corners lengths.track_confidence lengths.detection_confidence }
 {
-    let of_corners = (detections != boxes * 4) | (corners != tracks * 4);
-    let of_confidences = (track_confidence != tracks) | (detection_confidence != boxes);
+    let of_corners = (lengths.detections != lengths.boxes * 4)
+        | (lengths.corners != lengths.tracks * 4);
+    let of_confidences = (lengths.track_confidence != lengths.tracks)
+        | (lengths.detection_confidence != lengths.boxes);
     of_corners | (params.has_confidence & of_confidences)
 }
 
 pub fn within_verdict(
     params: AssociateParams,
-    boxes: usize,
-    tracks: usize,
-    detections: usize,
-    corners: usize,
-    track_confidence: usize,
-    detection_confidence: usize,
-    pairs: usize,
-    partners: usize,
-    unmatched_detections: usize,
-    unmatched_tracks: usize,
+    lengths: Lengths,
+    room: Room,
     work64: usize,
     work32: usize,
-) -> Verdict
-    ensures { result ≡ within_verdict params boxes tracks detections corners track_confidence detection_confidence (room_with pairs partners unmatched_detections unmatched_tracks) work64 work32 }
+) -> Result<(), Refusal>
+    ensures { result ≡ within_verdict params lengths.boxes lengths.tracks lengths.detections lengths.corners lengths.track_confidence lengths.detection_confidence room work64 work32 }
 {
+    let boxes = lengths.boxes;
+    let tracks = lengths.tracks;
     if (255 < boxes) | (255 < tracks) {
-        return Verdict::Refused(Refusal::TooMany);
+        return Err(Refusal::TooMany);
     }
-    if other_size(
-        params,
-        boxes,
-        tracks,
-        detections,
-        corners,
-        track_confidence,
-        detection_confidence,
-    ) {
-        return Verdict::Refused(Refusal::OtherSize);
+    if other_size(params, lengths) {
+        return Err(Refusal::OtherSize);
     }
-    let n = larger(boxes, tracks);
+    let n = boxes.max(tracks);
     if work32 < 4 * (n * n) {
-        return Verdict::Refused(Refusal::TooShort);
+        return Err(Refusal::TooShort);
     }
     let cells = boxes * tracks;
-    assignment_verdict(
-        boxes,
-        tracks,
-        cells,
-        cells,
-        pairs,
-        partners,
-        unmatched_detections,
-        unmatched_tracks,
-        work64,
-    )
+    assignment_verdict(boxes, tracks, cells, cells, room, work64)
 }
 
 fn associate_sizes(
     params: AssociateParams,
-    boxes: usize,
-    tracks: usize,
-    detections: usize,
-    corners: usize,
+    lengths: Lengths,
     mahalanobis: usize,
-    track_confidence: usize,
-    detection_confidence: usize,
     box_labels: usize,
     track_labels: usize,
-    pairs: usize,
-    partners: usize,
-    unmatched_detections: usize,
-    unmatched_tracks: usize,
+    room: Room,
     work64: usize,
     work32: usize,
-) -> Verdict
-    ensures { result ≡ associate_sizes params boxes tracks detections corners mahalanobis track_confidence detection_confidence box_labels track_labels (room_with pairs partners unmatched_detections unmatched_tracks) work64 work32 }
+) -> Result<(), Refusal>
+    ensures { result ≡ associate_sizes params lengths.boxes lengths.tracks lengths.detections lengths.corners mahalanobis lengths.track_confidence lengths.detection_confidence
+        box_labels track_labels room work64 work32 }
 {
-    if (255 < boxes) | (255 < tracks) {
-        return Verdict::Refused(Refusal::TooMany);
+    if (255 < lengths.boxes) | (255 < lengths.tracks) {
+        return Err(Refusal::TooMany);
     }
-    if params.has_mahalanobis & (mahalanobis != boxes * tracks) {
-        return Verdict::Refused(Refusal::OtherSize);
+    if params.has_mahalanobis & (mahalanobis != lengths.boxes * lengths.tracks) {
+        return Err(Refusal::OtherSize);
     }
-    if (box_labels != boxes) | (track_labels != tracks) {
-        return Verdict::Refused(Refusal::OtherSize);
+    if (box_labels != lengths.boxes) | (track_labels != lengths.tracks) {
+        return Err(Refusal::OtherSize);
     }
-    within_verdict(
-        params,
-        boxes,
-        tracks,
-        detections,
-        corners,
-        track_confidence,
-        detection_confidence,
-        pairs,
-        partners,
-        unmatched_detections,
-        unmatched_tracks,
-        work64,
-        work32,
-    )
+    within_verdict(params, lengths, room, work64, work32)
 }
 
 fn unlabelled(labels: &[u8]) -> bool
@@ -130,57 +88,33 @@ fn unlabelled(labels: &[u8]) -> bool
     first_unlabelled(labels, n) < n
 }
 
-// 34, of either side, also where the other side is 0.
-fn of_labels(box_labels: &[u8], track_labels: &[u8]) -> Verdict
-    ensures { result ≡ labelled_too Accepted (Label.unlabelled box_labels.now (length box_labels.now) || Label.unlabelled track_labels.now (length track_labels.now)) }
-{
-    let bad = unlabelled(box_labels) | unlabelled(track_labels);
-    if bad {
-        return Verdict::Refused(Refusal::NotLabelled);
-    }
-    Verdict::Accepted
-}
-
 pub fn associate_verdict(
     params: AssociateParams,
-    boxes: usize,
-    tracks: usize,
-    detections: usize,
-    corners: usize,
+    lengths: Lengths,
     mahalanobis: usize,
-    track_confidence: usize,
-    detection_confidence: usize,
     box_labels: &[u8],
     track_labels: &[u8],
-    pairs: usize,
-    partners: usize,
-    unmatched_detections: usize,
-    unmatched_tracks: usize,
+    room: Room,
     work64: usize,
     work32: usize,
-) -> Verdict
-    ensures { result ≡ associate_verdict params boxes tracks detections corners mahalanobis track_confidence detection_confidence box_labels.now track_labels.now (room_with pairs partners unmatched_detections unmatched_tracks) work64 work32 }
+) -> Result<(), Refusal>
+    ensures { result ≡ associate_verdict params lengths.boxes lengths.tracks lengths.detections lengths.corners mahalanobis lengths.track_confidence lengths.detection_confidence
+        box_labels.now track_labels.now room work64 work32 }
 {
-    let sizes = associate_sizes(
+    associate_sizes(
         params,
-        boxes,
-        tracks,
-        detections,
-        corners,
+        lengths,
         mahalanobis,
-        track_confidence,
-        detection_confidence,
         box_labels.len(),
         track_labels.len(),
-        pairs,
-        partners,
-        unmatched_detections,
-        unmatched_tracks,
+        room,
         work64,
         work32,
-    );
-    if let Verdict::Refused(why) = sizes {
-        return Verdict::Refused(why);
+    )?;
+    // a label of either side, also where the other side is 0
+    let bad = unlabelled(box_labels) | unlabelled(track_labels);
+    if bad {
+        return Err(Refusal::NotLabelled);
     }
-    of_labels(box_labels, track_labels)
+    Ok(())
 }

@@ -1,7 +1,7 @@
 // The assignment.
 ghost use Rattle.bedside_answers.specs.Lapjv.{InC};
 
-use bedside_answers::assignment::{LapjvAnswer, answer};
+use bedside_answers::assignment::LapjvAnswer;
 
 // Pairs each of n rows with one of n columns.
 #[unsafe(no_mangle)]
@@ -13,5 +13,5 @@ pub extern "C" fn bedside_lapjv(
 ) -> LapjvAnswer
     ensures { InC n cost.now x.old y.old result x.new y.new }
 {
-    answer(lapjv::lapjv(n, cost, x, y))
+    LapjvAnswer::from(lapjv::lapjv(n, cost, x, y))
 }

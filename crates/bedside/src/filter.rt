@@ -4,7 +4,7 @@ ghost use Rattle.bedside_answers.specs.Filter as C;
 ghost use Rattle.strack_filter.specs.KalmanFilter.{start_pair, predict_pair, correct_pair};
 ghost use Rattle.strack.specs.Strack.{convert_bbox_to_z, convert_z_to_bbox, confidence};
 
-use bedside_answers::filter::{Corrected, answer};
+use bedside_answers::filter::Corrected;
 use strack::rect::Xyxy;
 use strack_filter::kalman_filter::{DetectBox, Pair};
 
@@ -28,7 +28,7 @@ pub extern "C" fn bedside_pair_predict(pair: Pair) -> Pair
 pub extern "C" fn bedside_pair_correct(pair: Pair, z: f32, r: f32) -> Corrected
     ensures { result ≡ C.in_c (correct_pair pair z r) }
 {
-    answer(pair.correct(z, r))
+    Corrected::from(pair.correct(z, r))
 }
 
 #[unsafe(no_mangle)]

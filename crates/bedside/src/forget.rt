@@ -4,7 +4,7 @@ ghost use Rattle.boost_tracker_table.specs.Lent.{table_with, call_with};
 ghost use Rattle.boost_tracker_forget.specs.Forget.{forgotten};
 ghost use Rattle.bedside_answers.specs.Forget.{call_in_c};
 
-use bedside_answers::forget::{ForgetAnswer, of_forget};
+use bedside_answers::forget::ForgetAnswer;
 use boost_tracker_verdict::State;
 
 #[unsafe(no_mangle)]
@@ -18,7 +18,7 @@ pub extern "C" fn bedside_forget(
     ensures { call_with result (table_with floats.new counters.new labels.new)
         ≡ call_in_c (forgotten state (table_with floats.old counters.old labels.old) (id ∷ [])) }
 {
-    of_forget(boost_tracker_forget::forget(state, floats, counters, labels, id))
+    ForgetAnswer::from(boost_tracker_forget::forget(state, floats, counters, labels, id))
 }
 
 #[unsafe(no_mangle)]
@@ -32,5 +32,5 @@ pub extern "C" fn bedside_forget_set(
     ensures { call_with result (table_with floats.new counters.new labels.new)
         ≡ call_in_c (forgotten state (table_with floats.old counters.old labels.old) ids.now) }
 {
-    of_forget(boost_tracker_forget::forget_set(state, floats, counters, labels, ids))
+    ForgetAnswer::from(boost_tracker_forget::forget_set(state, floats, counters, labels, ids))
 }

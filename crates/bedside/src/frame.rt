@@ -6,7 +6,7 @@ ghost use Rattle.boost_tracker_verdict.specs.Boxes.{boxes_with};
 ghost use Rattle.boost_tracker.specs.Frame.{memory_with, updated};
 ghost use Rattle.bedside_answers.specs.Frame.{call_in_c};
 
-use bedside_answers::frame::{Updated, of_update};
+use bedside_answers::frame::Updated;
 use boost_tracker::{Settings, State};
 
 // The Rust's `new`.
@@ -39,7 +39,7 @@ pub extern "C" fn bedside_update(
         ≡ call_in_c (updated settings state (boxes_with boxes.now box_labels.now)
         (memory_with floats.old counters.old labels.old out.old work64.old work32.old)) }
 {
-    of_update(boost_tracker::update(
+    Updated::from(boost_tracker::update(
         settings, state, floats, counters, labels, boxes, box_labels, out, work64, work32,
     ))
 }

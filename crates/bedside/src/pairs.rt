@@ -12,7 +12,7 @@ ghost use Rattle.bedside_answers.specs.Pairs.{MatrixInC, match_call_in_c, call_i
 
 use assoc::AssociateParams;
 use assoc_boxes::overlap::{OverlapAreas, bounding_box};
-use bedside_answers::pairs::{Assignment, Matched, of_assignment, of_match};
+use bedside_answers::pairs::{Assignment, Matched, number};
 
 // ---- one box and one track
 
@@ -40,7 +40,7 @@ pub extern "C" fn bedside_iou_batch(
         (iou_batch detections.now corners.now)
         boxes tracks out.old result out.new }
 {
-    assoc_similarity::iou_batch(boxes, tracks, detections, corners, out).number()
+    number(assoc_similarity::iou_batch(boxes, tracks, detections, corners, out))
 }
 
 #[unsafe(no_mangle)]
@@ -56,14 +56,14 @@ pub extern "C" fn bedside_soft_biou_batch(
         (soft_biou_batch detections.now corners.now track_confidences.now)
         boxes tracks out.old result out.new }
 {
-    assoc_similarity::soft_biou_batch(
+    number(assoc_similarity::soft_biou_batch(
         boxes,
         tracks,
         detections,
         corners,
         track_confidences,
         out,
-    ).number()
+    ))
 }
 
 #[unsafe(no_mangle)]
@@ -78,7 +78,7 @@ pub extern "C" fn bedside_shape_similarity_v1(
         (shape_similarity_v1 detections.now corners.now)
         boxes tracks out.old result out.new }
 {
-    assoc_similarity::shape_similarity_v1(boxes, tracks, detections, corners, out).number()
+    number(assoc_similarity::shape_similarity_v1(boxes, tracks, detections, corners, out))
 }
 
 #[unsafe(no_mangle)]
@@ -93,7 +93,7 @@ pub extern "C" fn bedside_shape_similarity_v2(
         (shape_similarity_v2 detections.now corners.now)
         boxes tracks out.old result out.new }
 {
-    assoc_similarity::shape_similarity_v2(boxes, tracks, detections, corners, out).number()
+    number(assoc_similarity::shape_similarity_v2(boxes, tracks, detections, corners, out))
 }
 
 #[unsafe(no_mangle)]
@@ -108,7 +108,7 @@ pub extern "C" fn bedside_mh_dist_similarity(
         (mh_dist_similarity distance.now softmax_temp boxes tracks)
         boxes tracks out.old result out.new }
 {
-    assoc_similarity::mh_dist_similarity(boxes, tracks, distance, softmax_temp, out).number()
+    number(assoc_similarity::mh_dist_similarity(boxes, tracks, distance, softmax_temp, out))
 }
 
 // ---- pairs
@@ -126,7 +126,7 @@ pub extern "C" fn bedside_match_detections(
     ensures { match_call_in_c result (match_lent_with pair_boxes.new pair_tracks.new work.new)
         ≡ match_call boxes tracks cost.now threshold (match_lent_with pair_boxes.old pair_tracks.old work.old) }
 {
-    of_match(assoc::match_detections(
+    Matched::from(assoc::match_detections(
         boxes,
         tracks,
         cost,
@@ -154,7 +154,7 @@ pub extern "C" fn bedside_linear_assignment(
         (Assignments.lent_with pair_boxes.old pair_tracks.old unmatched_detections.old unmatched_tracks.old work.old) in
         call_in_c call.counts.rejected result (Assignments.lent_with pair_boxes.new pair_tracks.new unmatched_detections.new unmatched_tracks.new work.new) ≡ call }
 {
-    of_assignment(assoc::linear_assignment(
+    Assignment::from(assoc::linear_assignment(
         boxes,
         tracks,
         iou,
@@ -191,7 +191,7 @@ pub extern "C" fn bedside_associate(
         (lent_with pair_boxes.old pair_tracks.old unmatched_detections.old unmatched_tracks.old work64.old work32.old) in
         call_in_c call.counts.rejected result (lent_with pair_boxes.new pair_tracks.new unmatched_detections.new unmatched_tracks.new work64.new work32.new) ≡ call }
 {
-    of_assignment(assoc::associate(
+    Assignment::from(assoc::associate(
         params,
         boxes,
         tracks,

@@ -5,7 +5,7 @@ ghost use Rattle.boost_tracker_verdict.specs.Boxes.{boxes_with};
 ghost use Rattle.boost_tracker_why.specs.Answers.{work_with, why_call};
 ghost use Rattle.bedside_answers.specs.Why.{call_in_c};
 
-use bedside_answers::why::{Explained, of_why};
+use bedside_answers::why::Explained;
 use boost_tracker::{Settings, State};
 
 #[unsafe(no_mangle)]
@@ -26,7 +26,7 @@ pub extern "C" fn bedside_why(
         ≡ call_in_c (why_call settings state (boxes_with boxes.now box_labels.now) (table_with floats.now counters.now labels.now) (length out.now) index
         (work_with work64.old work32.old)) }
 {
-    of_why(boost_tracker_why::why(
+    Explained::from(boost_tracker_why::why(
         settings,
         state,
         floats,

@@ -1,27 +1,25 @@
 -- The pairs of include/bedside.h: a verdict as the scope document's number; `bedside_matched` and `bedside_assignment`, answers as that number and the counts.
-use Rattle.std.specs.Prelude.{◌≡◌, List, ℕ, Float}
+use Rattle.std.specs.Prelude.{◌≡◌, List, ℕ, Float, ⊤, Result}
 use Rattle.refusals.specs.Refusal.{verdict_number}
 use Rattle.assoc_similarity.specs.Sizes.{after}
-use Rattle.refusals.specs.declared.refusal.Verdict.{Verdict}
+use Rattle.refusals.specs.declared.refusal.Refusal.{Refusal}
 use Rattle.assoc_matching.specs.Answers.{Call, MatchLent, match_number, match_values}
 use Rattle.assoc_assignment.specs.Answers.{assignment_number, assignment_values}
-use Rattle.assoc_matching.specs.declared.matching.MatchAnswer.{MatchAnswer}
 use Rattle.assoc_matching.specs.declared.matching.MatchCounts.{MatchCounts}
-use Rattle.assoc_assignment.specs.declared.assignment.AssignmentAnswer.{AssignmentAnswer}
 use Rattle.assoc_assignment.specs.declared.assignment.AssignmentCounts.{AssignmentCounts}
 use Rattle.bedside_answers.specs.declared.pairs.Matched.{Matched}
 use Rattle.bedside_answers.specs.declared.pairs.Assignment.{Assignment}
 
 -- r is the number of the verdict v, and the slice is as a call with this verdict leaves it
-pub record MatrixInC (v : Verdict) (cell : ℕ → ℕ → Float) (boxes tracks : ℕ) (out : List Float) (r : ℕ) (out' : List Float) : Type 0 where
+pub record MatrixInC (v : Result ⊤ Refusal) (cell : ℕ → ℕ → Float) (boxes tracks : ℕ) (out : List Float) (r : ℕ) (out' : List Float) : Type 0 where
   pub number : r ≡ verdict_number v
   pub cells : out' ≡ after v cell boxes tracks out
 
 -- of an answer
-abbrev pub matched_in_c : MatchAnswer → Matched
+abbrev pub matched_in_c : Result MatchCounts Refusal → Matched
 matched_in_c a = record { refusal = match_number a; pairs = (match_values a).pairs; turns = (match_values a).turns; scans = (match_values a).scans }
 
-abbrev pub assignment_in_c : AssignmentAnswer → Assignment
+abbrev pub assignment_in_c : Result AssignmentCounts Refusal → Assignment
 assignment_in_c a =
     record { refusal = assignment_number a; pairs = (assignment_values a).pairs; unmatched_detections = (assignment_values a).detections; unmatched_tracks = (assignment_values a).tracks; turns = (assignment_values a).turns; scans = (assignment_values a).scans }
 

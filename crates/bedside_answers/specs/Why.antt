@@ -1,11 +1,10 @@
 -- `bedside_explanation` of include/bedside.h: an answer of `why` as the number of its refusal, with 16 and 20 the index of the box, and what is told of the box, the fate by its number; all 0 where it is refused.
-use Rattle.std.specs.Prelude.{ℕ}
+use Rattle.std.specs.Prelude.{ℕ, Result, Ok, Err}
 use Rattle.floats.specs.Single.{plus_zero}
 use Rattle.boost_tracker_table.specs.Lent.{Call, call_with}
 use Rattle.boost_tracker_fate.specs.declared.kinds.Explanation.{Explanation}
 use Rattle.boost_tracker_fate.specs.Fate.{fate_number, fate_id}
-use Rattle.boost_tracker_why.specs.declared.tool.WhyAnswer.{WhyAnswer}
-use Rattle.boost_tracker_why.specs.declared.tool.WhyAnswer.TheVariants as answer
+use Rattle.boost_tracker_why.specs.declared.refusal.WhyRefusal.{WhyRefusal}
 use Rattle.boost_tracker_why.specs.Answers.{why_number, Work}
 use Rattle.bedside_answers.specs.declared.why.Explained.{Explained}
 
@@ -39,11 +38,10 @@ explained_in_c e = record {
   union_area = e.partner.union;
 }
 
-abbrev pub why_in_c : WhyAnswer → Explained
-why_in_c (answer.Explained e) = explained_in_c e
-why_in_c (answer.Refused why) = unexplained (why_number (answer.Refused why)).0 (why_number (answer.Refused why)).1
-why_in_c answer.NoBox = unexplained (why_number answer.NoBox).0 (why_number answer.NoBox).1
+abbrev pub why_in_c : Result Explanation WhyRefusal → Explained
+why_in_c (Ok e) = explained_in_c e
+why_in_c (Err why) = unexplained (why_number (Err why)).0 (why_number (Err why)).1
 
 -- the answer of a call in C's form, and memory as it leaves it
-abbrev pub call_in_c : Call WhyAnswer Work → Call Explained Work
+abbrev pub call_in_c : Call (Result Explanation WhyRefusal) Work → Call Explained Work
 call_in_c k = call_with (why_in_c k.answer) k.lent

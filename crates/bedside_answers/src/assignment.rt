@@ -1,10 +1,10 @@
 // The answer of the assignment.
 ghost use Rattle.std.specs.Prelude.{◌≡◌};
 ghost use Rattle.bedside_answers.specs.Lapjv.{in_c};
-ghost use Rattle.lapjv.specs.Answers.{refusal_number};
 
-use lapjv::{Answer, Refusal};
+use lapjv::{Counts, Refusal};
 
+// Kept: C reads these fields, as include/bedside.h has them.
 #[repr(C)]
 #[derive(Drop)]
 pub struct LapjvAnswer {
@@ -13,29 +13,22 @@ pub struct LapjvAnswer {
     pub scans: u64,
 }
 
-fn number(why: Refusal) -> u32
-    ensures { result ≡ refusal_number why }
-{
-    match why {
-        Refusal::NoSide => 21,
-        Refusal::SideAbove255 => 22,
-        Refusal::WrongSize => 23,
-    }
-}
+impl From<Result<Counts, Refusal>> for LapjvAnswer {
+    ghost from_gives = { λ answer r. r ≡ in_c answer };
 
-pub fn answer(a: Answer) -> LapjvAnswer
-    ensures { result ≡ in_c a }
-{
-    match a {
-        Answer::Assigned(c) => LapjvAnswer {
-            refusal: 0,
-            turns: c.turns as u64,
-            scans: c.scans as u64,
-        },
-        Answer::Refused(why) => LapjvAnswer {
-            refusal: number(why),
-            turns: 0,
-            scans: 0,
-        },
+    #[tactic(auto, unfolding(lapjv::specs::Answers::number_of, lapjv::specs::Answers::turns_of, lapjv::specs::Answers::scans_of))]
+    fn from(answer: Result<Counts, Refusal>) -> LapjvAnswer {
+        match answer {
+            Ok(c) => LapjvAnswer {
+                refusal: 0,
+                turns: c.turns as u64,
+                scans: c.scans as u64,
+            },
+            Err(why) => LapjvAnswer {
+                refusal: u32::from(why),
+                turns: 0,
+                scans: 0,
+            },
+        }
     }
 }

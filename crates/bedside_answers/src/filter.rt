@@ -3,8 +3,9 @@ ghost use Rattle.std.specs.Prelude.{◌≡◌};
 ghost use Rattle.bedside_answers.specs.Filter as C;
 ghost use Rattle.strack_filter.specs.KalmanFilter.{pair_answer};
 
-use strack_filter::kalman_filter::{Pair, PairCorrection};
+use strack_filter::kalman_filter::Pair;
 
+// Kept: C reads these fields, as include/bedside.h has them.
 #[repr(C)]
 #[derive(Drop)]
 pub struct Corrected {
@@ -12,11 +13,14 @@ pub struct Corrected {
     pub pair: Pair,
 }
 
-pub fn answer(a: PairCorrection) -> Corrected
-    ensures { result ≡ C.in_c (pair_answer a) }
-{
-    match a {
-        PairCorrection::Corrected(pair) => Corrected { refusal: 0, pair },
-        PairCorrection::Refused(pair) => Corrected { refusal: 12, pair },
+// A refused pair is handed back as it was given.
+impl From<Result<Pair, Pair>> for Corrected {
+    ghost from_gives = { λ answer r. r ≡ C.in_c (pair_answer answer) };
+
+    fn from(answer: Result<Pair, Pair>) -> Corrected {
+        match answer {
+            Ok(pair) => Corrected { refusal: 0, pair },
+            Err(pair) => Corrected { refusal: 12, pair },
+        }
     }
 }

@@ -4,6 +4,7 @@ ghost use Rattle.bedside_answers.specs.Frame.{updated_in_c};
 
 use boost_tracker::{State, UpdateAnswer};
 
+// Kept: C reads these fields, as include/bedside.h has them.
 #[repr(C)]
 #[derive(Drop)]
 pub struct Updated {
@@ -15,17 +16,18 @@ pub struct Updated {
     pub scans: u64,
 }
 
-pub fn of_update(a: UpdateAnswer) -> Updated
-    ensures { result ≡ updated_in_c a }
-{
-    let verdict = a.verdict;
-    let state = a.state;
-    Updated {
-        refusal: verdict.number(),
-        index: verdict.index(),
-        state,
-        emitted: a.emitted as u64,
-        turns: a.turns as u64,
-        scans: a.scans as u64,
+impl From<UpdateAnswer> for Updated {
+    ghost from_gives = { λ answer r. r ≡ updated_in_c answer };
+
+    fn from(answer: UpdateAnswer) -> Updated {
+        let verdict = answer.verdict;
+        Updated {
+            refusal: verdict.map_or_else(u32::from, |()| 0),
+            index: verdict.map_or_else(|why| why.index(), |()| 0),
+            state: answer.state,
+            emitted: answer.emitted as u64,
+            turns: answer.turns as u64,
+            scans: answer.scans as u64,
+        }
     }
 }

@@ -2,8 +2,9 @@
 ghost use Rattle.std.specs.Prelude.{◌≡◌};
 ghost use Rattle.bedside_answers.specs.Mot.{answered_in_c};
 
-use mot_line::Answer;
+use mot_line::Refusal;
 
+// Kept: C reads these fields, as include/bedside.h has them.
 #[repr(C)]
 #[derive(Drop)]
 pub struct MotAnswer {
@@ -11,11 +12,16 @@ pub struct MotAnswer {
     pub frame: u32,
 }
 
-pub fn of_line(a: Answer) -> MotAnswer
-    ensures { result ≡ answered_in_c a }
-{
-    MotAnswer {
-        refusal: a.refusal(),
-        frame: a.frame(),
+impl From<Result<u32, Refusal>> for MotAnswer {
+    ghost from_gives = { λ answer r. r ≡ answered_in_c answer };
+
+    fn from(answer: Result<u32, Refusal>) -> MotAnswer {
+        match answer {
+            Ok(frame) => MotAnswer { refusal: 0, frame },
+            Err(why) => MotAnswer {
+                refusal: u32::from(why),
+                frame: 0,
+            },
+        }
     }
 }

@@ -2,8 +2,9 @@
 ghost use Rattle.std.specs.Prelude.{◌≡◌};
 ghost use Rattle.bedside_answers.specs.Why.{unexplained, explained_in_c, why_in_c};
 
-use boost_tracker_why::{Explanation, WhyAnswer};
+use boost_tracker_why::{Explanation, WhyRefusal};
 
+// Kept: C reads these fields, as include/bedside.h has them.
 #[repr(C)]
 #[derive(Drop)]
 pub struct Explained {
@@ -38,32 +39,35 @@ fn unexplained(refusal: u32, index: u64) -> Explained
     }
 }
 
-fn of_explanation(e: Explanation) -> Explained
-    ensures { result ≡ explained_in_c e }
-{
-    let fate = e.fate;
-    let partner = e.partner;
-    Explained {
-        refusal: 0,
-        index: 0,
-        fate: fate.number(),
-        id: fate.id(),
-        score: e.score,
-        score_dlo: e.score_dlo,
-        score_duo: e.score_duo,
-        paired_id: partner.id,
-        iou: partner.iou,
-        intersection: partner.intersection,
-        union_area: partner.union,
+impl From<Explanation> for Explained {
+    ghost from_gives = { λ e r. r ≡ explained_in_c e };
+
+    fn from(e: Explanation) -> Explained {
+        let fate = e.fate;
+        let partner = e.partner;
+        Explained {
+            refusal: 0,
+            index: 0,
+            fate: u32::from(fate),
+            id: fate.id(),
+            score: e.score,
+            score_dlo: e.score_dlo,
+            score_duo: e.score_duo,
+            paired_id: partner.id,
+            iou: partner.iou,
+            intersection: partner.intersection,
+            union_area: partner.union,
+        }
     }
 }
 
-pub fn of_why(a: WhyAnswer) -> Explained
-    ensures { result ≡ why_in_c a }
-{
-    match a {
-        WhyAnswer::Explained(e) => of_explanation(e),
-        WhyAnswer::Refused(why) => unexplained(why.number(), why.index()),
-        WhyAnswer::NoBox => unexplained(81, 0),
+impl From<Result<Explanation, WhyRefusal>> for Explained {
+    ghost from_gives = { λ answer r. r ≡ why_in_c answer };
+
+    fn from(answer: Result<Explanation, WhyRefusal>) -> Explained {
+        match answer {
+            Ok(e) => Explained::from(e),
+            Err(why) => unexplained(u32::from(why), why.index()),
+        }
     }
 }

@@ -18,8 +18,8 @@ use Rattle.assoc_matching.specs.Answers.{zeroed}
 use Rattle.assoc.specs.Answers.{cleared}
 use Rattle.records.specs.TrackRecord.{track_bytes}
 use Rattle.boost_tracker_verdict.specs.declared.refusal.Refusal.{Refusal}
-use Rattle.boost_tracker_verdict.specs.declared.refusal.Verdict.{Verdict}
-use Rattle.boost_tracker_verdict.specs.declared.refusal.Verdict.TheVariants.{Accepted, Refused}
+use Rattle.std.specs.Bool.{⊤}
+use Rattle.std.proofs.Common.{Result, Ok, Err}
 use Rattle.boost_tracker_settings.specs.declared.settings.Settings.{Settings}
 use Rattle.boost_tracker_verdict.specs.declared.sound.State.{State}
 use Rattle.boost_tracker_table.specs.Table.{Track, blank, capacity, places_in, placed, tracks, young, retained, Laying, Retired, Emptied, labels_where, zero_filled, labels_retired, labels_emptied}
@@ -28,14 +28,15 @@ use Rattle.boost_tracker_table.proofs.Laws.{tracks-many, lay_here, lay_tracks, l
 use Rattle.boost_tracker_table.proofs.LabelLaws.{labels-finished, laid-places, holding-laid}
 use Rattle.boost_tracker_emission.specs.Emission.{Emitted, emitted_inds, bytes_at}
 use Rattle.boost_tracker_verdict.specs.Boxes.{Boxes}
-use Rattle.boost_tracker_verdict.specs.Verdict.{boxes_in, verdict, where_accepted}
+use Rattle.boost_tracker_verdict.specs.Verdict.{boxes_in, verdict}
 use Rattle.boost_tracker_verdict.specs.Ready.{Ready}
 use Rattle.boost_tracker_verdict.proofs.ReadyLaws.{ready}
 use Rattle.boost_tracker_definition.specs.Update.{Stages, stages_from, steps, update_by, update, labels_retained}
 use Rattle.boost_tracker_definition.specs.Facts.{FrameFacts, labels_all}
 use Rattle.boost_tracker_definition.proofs.FactLaws.{frame_facts, started-few}
 use Rattle.boost_tracker_steps.specs.declared.all_steps.Advanced.{Advanced}
-use Rattle.boost_tracker_steps.specs.AllSteps.{refused_advance, accepted_advance, Lent, lent_with, lent_after, advanced}
+use Rattle.boost_tracker_steps.specs.AllSteps as Steps
+use Rattle.boost_tracker_steps.specs.AllSteps.{accepted_advance, Lent, lent_with, lent_after, advanced}
 use Rattle.boost_tracker.specs.declared.frame.UpdateAnswer.{UpdateAnswer}
 use Rattle.boost_tracker.specs.Frame.{refused_answer, accepted_answer, Memory, memory_with, updated}
 use Rattle.boost_tracker.specs.Private.{FinishRoom, Ending, ending_with, answer_of, finished}
@@ -84,16 +85,21 @@ finish-is s state a f c n out {f₁} {f₂} {c₁} {c₂} {n₁} {n₂} {out'} {
 abbrev joined : List Float → List Float → Call UpdateAnswer Ending → Call UpdateAnswer Memory
 joined work64 work32 k = call_with k.answer (record { table = k.lent.table; output = k.lent.output; work64 = work64; work32 = work32 })
 
-told : (v : Verdict) (g : Stages) (all : List ℕ) (l : Lent) → (where_accepted v (call_with (accepted_advance g) (lent_after g all l)) (call_with (refused_advance v) l)).answer.verdict ≡ v
-told Accepted g all l = refl
-told (Refused why) g all l = refl
+-- what the answer of steps 1 to 7 tells of the verdict
+refusal-is : (g : Stages) {why : Refusal} (v : Result ⊤ Refusal) → Err why ≡ Steps.answer_of g v → v ≡ Err why
+refusal-is g (Ok tt) e = absurd (cc)
+refusal-is g {why} (Err other) e = let same : why ≡ other = cc in rw same
+
+accept-is : (g : Stages) {a : Advanced} (v : Result ⊤ Refusal) → Ok a ≡ Steps.answer_of g v → v ≡ Ok tt
+accept-is g (Ok tt) e = refl
+accept-is g (Err why) e = absurd (cc)
 
 module _ (s : Settings) (state : State) (f : List Float) (c n : List ℕ) (boxes : Boxes) (out : List ℕ) (work64 work32 : List Float)
-    {a : Advanced} {f₁ work64' work32' : List Float} {c₁ n₁ : List ℕ} (w : call_with a (lent_with f₁ c₁ n₁ work64' work32') ≡ advanced s state boxes (length out) (lent_with f c n work64 work32)) where
+    {q : Result Advanced Refusal} {f₁ work64' work32' : List Float} {c₁ n₁ : List ℕ} (w : call_with q (lent_with f₁ c₁ n₁ work64' work32') ≡ advanced s state boxes (length out) (lent_with f c n work64 work32)) where
   abbrev table : Table
   table = table_with f c n
 
-  abbrev v : Verdict
+  abbrev v : Result ⊤ Refusal
   v = verdict s state table boxes (length out) (length work64) (length work32)
 
   abbrev labels : List ℕ
@@ -109,35 +115,35 @@ module _ (s : Settings) (state : State) (f : List Float) (c n : List ℕ) (boxes
   abbrev lent : Lent
   lent = lent_with f c n work64 work32
 
-  verdict-is : a.verdict ≡ v
+  answered-is : q ≡ Steps.answer_of g v
   unfolding advanced
-  verdict-is = ap (λ (k : Call Advanced Lent). k.answer.verdict) w ∙ told v g all lent
+  answered-is = ap (λ (k : Call (Result Advanced Refusal) Lent). k.answer) w
 
   -- a refused call changes nothing
-  pub update-refused : {why : Refusal} {r : UpdateAnswer} → a.verdict ≡ Refused why → r ≡ refused_answer a.verdict state
+  pub update-refused : {why : Refusal} {r : UpdateAnswer} → q ≡ Err why → r ≡ refused_answer (Err why) state
       → call_with r (memory_with f₁ c₁ n₁ out work64' work32') ≡ updated s state boxes (memory_with f c n out work64 work32)
   unfolding advanced updated
   update-refused {why} {r} h e =
-      let refuses : v ≡ Refused why = sym verdict-is ∙ h in
-      let left : lent_with f₁ c₁ n₁ work64' work32' ≡ lent = ap (λ (k : Call Advanced Lent). k.lent) (rw refuses at w) in
-      rw refuses (ap (λ (l : Lent). call_with r (memory_with l.table.floats l.table.counters l.table.labels out l.work64 l.work32)) left ∙ rw (e, h))
+      let refuses : v ≡ Err why = refusal-is g v (sym h ∙ answered-is) in
+      let left : lent_with f₁ c₁ n₁ work64' work32' ≡ lent = ap (λ (k : Call (Result Advanced Refusal) Lent). k.lent) (rw refuses at w) in
+      rw refuses (ap (λ (l : Lent). call_with r (memory_with l.table.floats l.table.counters l.table.labels out l.work64 l.work32)) left ∙ rw e)
 
-  module _ (h : a.verdict ≡ Accepted) where
-    accepts : v ≡ Accepted
-    accepts = sym verdict-is ∙ h
+  module _ {a : Advanced} (h : q ≡ Ok a) where
+    accepts : v ≡ Ok tt
+    accepts = accept-is g v (sym h ∙ answered-is)
 
     knows : Ready s state table boxes (length out) (length work64) (length work32)
     knows = ready s state table boxes (length out) (length work64) (length work32) accepts
 
-    leaves : call_with a (lent_with f₁ c₁ n₁ work64' work32') ≡ call_with (accepted_advance g) (lent_after g all lent)
+    leaves : call_with q (lent_with f₁ c₁ n₁ work64' work32') ≡ call_with (Ok (accepted_advance g)) (lent_after g all lent)
     unfolding advanced
     leaves = rw accepts at w
 
     answer-is : a ≡ accepted_advance g
-    answer-is = ap (λ (k : Call Advanced Lent). k.answer) leaves
+    answer-is = let same : Ok a ≡ Ok (accepted_advance g) = sym h ∙ ap (λ (k : Call (Result Advanced Refusal) Lent). k.answer) leaves in cc
 
     table_is : table_with f₁ c₁ n₁ ≡ laid_over g.started.trackers all table
-    table_is = ap (λ (k : Call Advanced Lent). k.lent.table) leaves
+    table_is = ap (λ (k : Call (Result Advanced Refusal) Lent). k.lent.table) leaves
 
     facts : FrameFacts s state boxes (tracks_in table state.count) labels g (holding g.retained (labels_retained s all g) table)
     facts = frame_facts s state table boxes (length out) (length work64) (length work32) accepts
@@ -189,7 +195,7 @@ module _ (s : Settings) (state : State) (f : List Float) (c n : List ℕ) (boxes
     unfolding updated
     update-accepted {r} {f₂} {c₂} {n₂} {out'} z =
         let ends : finished s state a (ending_with f₁ c₁ n₁ out) ≡ finished s state (accepted_advance g) (record { table = laid_over g.started.trackers all table; output = out }) =
-        ap (λ (k : Call Advanced Lent). finished s state k.answer (record { table = k.lent.table; output = out })) leaves in
-        let doubles : work64' ≡ zeroed work64 = ap (λ (k : Call Advanced Lent). k.lent.work64) leaves in
-        let singles : work32' ≡ cleared work32 = ap (λ (k : Call Advanced Lent). k.lent.work32) leaves in
+        rw answer-is (ap (λ (k : Call (Result Advanced Refusal) Lent). finished s state (accepted_advance g) (record { table = k.lent.table; output = out })) leaves) in
+        let doubles : work64' ≡ zeroed work64 = ap (λ (k : Call (Result Advanced Refusal) Lent). k.lent.work64) leaves in
+        let singles : work32' ≡ cleared work32 = ap (λ (k : Call (Result Advanced Refusal) Lent). k.lent.work32) leaves in
         rw accepts (ap (joined work64' work32') (z ∙ ends ∙ finished-is) ∙ rw (doubles, singles))

@@ -11,8 +11,8 @@ use lib.Seq.{get_or-take}
 use Rattle.labels.specs.Label.{label_at}
 use Rattle.boost_tracker_verdict.specs.declared.refusal.Refusal.{Refusal}
 use Rattle.boost_tracker_verdict.specs.declared.refusal.Refusal.TheVariants.{TableNotSound, TrackNotLabelled, TrackNotWorkable, SettingNotFinite, TooManyBoxes, TableFull, BadBox, BoxNotLabelled, TooManyFrames, OutputShort, WorkShort}
-use Rattle.boost_tracker_verdict.specs.declared.refusal.Verdict.{Verdict}
-use Rattle.boost_tracker_verdict.specs.declared.refusal.Verdict.TheVariants.{Accepted, Refused}
+use Rattle.std.specs.Bool.{⊤}
+use Rattle.std.proofs.Common.{Result, Ok, Err}
 use Rattle.boost_tracker_settings.specs.declared.settings.Settings.{Settings}
 use Rattle.boost_tracker_verdict.specs.declared.sound.State.{State}
 use Rattle.boost_tracker_settings.specs.Settings.{with_cap_confidence}
@@ -37,9 +37,9 @@ use Rattle.boost_tracker.proofs.UnlabelledLaws.{records-labelled, labels_kept_le
 
 in_order : (bad none : ℕ) (c11 c10 c12 c13 c14 c15 c16 c20 c17 c18 c19 : Bool)
     → answer
-    (or_else (cond c11 (Refused TableNotSound) (cond c10 (Refused TrackNotLabelled) (cond c12 (Refused TrackNotWorkable) (cond c13 (Refused SettingNotFinite) Accepted))))
-    (or_else (cond c14 (Refused TooManyBoxes) (cond c15 (Refused TableFull) (cond c16 (Refused (BadBox bad)) (cond c20 (Refused (BoxNotLabelled none)) Accepted))))
-    (cond c17 (Refused TooManyFrames) (cond c18 (Refused OutputShort) (cond c19 (Refused WorkShort) Accepted)))))
+    (or_else (cond c11 (Err TableNotSound) (cond c10 (Err TrackNotLabelled) (cond c12 (Err TrackNotWorkable) (cond c13 (Err SettingNotFinite) (Ok tt)))))
+    (or_else (cond c14 (Err TooManyBoxes) (cond c15 (Err TableFull) (cond c16 (Err (BadBox bad)) (cond c20 (Err (BoxNotLabelled none)) (Ok tt)))))
+    (cond c17 (Err TooManyFrames) (cond c18 (Err OutputShort) (cond c19 (Err WorkShort) (Ok tt))))))
     ≡ said
     (first ((11, c11) ∷ (10, c10) ∷ (12, c12) ∷ (13, c13) ∷ (14, c14) ∷ (15, c15) ∷ (16, c16) ∷ (20, c20) ∷ (17, c17) ∷ (18, c18) ∷ (19, c19) ∷ []))
     bad none
@@ -62,7 +62,7 @@ module _ (s : Settings) (state : State) (boxes : Boxes) (m : Memory) where
   unfolding verdict of_table of_boxes of_room
   verdict-first = in_order _ _ _ _ _ _ _ _ _ _ _ _ _
 
-  refusal-high : (why : Refusal) → 10 ≤ (answer (Refused why)).0
+  refusal-high : (why : Refusal) → 10 ≤ (answer (Err why)).0
   refusal-high TableNotSound = omega arith
   refusal-high TrackNotLabelled = omega arith
   refusal-high TrackNotWorkable = omega arith
@@ -80,20 +80,20 @@ module _ (s : Settings) (state : State) (boxes : Boxes) (m : Memory) where
   unfolding updated
   worked-whole_or_turned_down {r} {m'} ends = by_cases (verdict_of s state boxes m) verdict-first ends
     where
-      by_cases : (v : Verdict) → answer v ≡ said (first (conditions s state boxes m)) (lowest_bad s state boxes m) (lowest_unlabelled s state boxes m)
+      by_cases : (v : Result ⊤ Refusal) → answer v ≡ said (first (conditions s state boxes m)) (lowest_bad s state boxes m) (lowest_unlabelled s state boxes m)
           → call_with r m' ≡ where_accepted v (call_with (accepted_answer (worked s state boxes m)) (memory_after s (labels_of state boxes m (worked s state boxes m)) (worked s state boxes m) m)) (call_with (refused_answer v state) m)
           → WholeOrTurnedDown s state boxes m r m'
-      by_cases Accepted e leaves =
+      by_cases (Ok tt) e leaves =
           whole (sym (ap (λ (p : ℕ × ℕ). p.0) e)) (ap (λ (k : Call UpdateAnswer Memory). k.answer) leaves) (ap (λ (k : Call UpdateAnswer Memory). k.lent) leaves)
-      by_cases (Refused why) e leaves =
-          let number : (answer (Refused why)).0 ≡ first (conditions s state boxes m) = ap (λ (p : ℕ × ℕ). p.0) e in
-          let answered : r ≡ refused_answer (Refused why) state = ap (λ (k : Call UpdateAnswer Memory). k.answer) leaves in
-          let refuses : r.verdict ≡ Refused why = ap (λ (a : UpdateAnswer). a.verdict) answered in
+      by_cases (Err why) e leaves =
+          let number : (answer (Err why)).0 ≡ first (conditions s state boxes m) = ap (λ (p : ℕ × ℕ). p.0) e in
+          let answered : r ≡ refused_answer (Err why) state = ap (λ (k : Call UpdateAnswer Memory). k.answer) leaves in
+          let refuses : r.verdict ≡ Err why = ap (λ (a : UpdateAnswer). a.verdict) answered in
           turned_down
           (rw number at (refusal-high why))
           (record {
             says = ap answer refuses ∙ e;
-            rest = answered ∙ ap (λ (v : Verdict). refused_answer v state) (sym refuses);
+            rest = answered ∙ ap (λ (v : Result ⊤ Refusal). refused_answer v state) (sym refuses);
             memory = ap (λ (k : Call UpdateAnswer Memory). k.lent) leaves;
           })
 
@@ -101,21 +101,21 @@ module _ (s : Settings) (state : State) (boxes : Boxes) (m : Memory) where
   abbrev accepted : Call UpdateAnswer Memory
   accepted = call_with (accepted_answer (worked s state boxes m)) (memory_after s (labels_of state boxes m (worked s state boxes m)) (worked s state boxes m) m)
 
-  -- a call whose answer is Accepted
-  accepted-call : {r : UpdateAnswer} {m' : Memory} → call_with r m' ≡ updated s state boxes m → r.verdict ≡ Accepted → (verdict_of s state boxes m ≡ Accepted) × (call_with r m' ≡ accepted)
+  -- a call whose answer is accepted
+  accepted-call : {r : UpdateAnswer} {m' : Memory} → call_with r m' ≡ updated s state boxes m → r.verdict ≡ Ok tt → (verdict_of s state boxes m ≡ Ok tt) × (call_with r m' ≡ accepted)
   unfolding updated
   accepted-call {r} {m'} ends accepts = by_cases (verdict_of s state boxes m) refl ends
     where
-      by_cases : (v : Verdict) → verdict_of s state boxes m ≡ v → call_with r m' ≡ where_accepted v accepted (call_with (refused_answer v state) m) → (verdict_of s state boxes m ≡ Accepted) × (call_with r m' ≡ accepted)
-      by_cases Accepted e leaves = (e, leaves)
-      by_cases (Refused why) e leaves =
-          let refuses : Refused why ≡ Accepted = sym (ap (λ (k : Call UpdateAnswer Memory). k.answer.verdict) leaves) ∙ accepts in
-          let none : (answer (Refused why)).0 ≡ 0 = ap (λ (v : Verdict). (answer v).0) refuses in
+      by_cases : (v : Result ⊤ Refusal) → verdict_of s state boxes m ≡ v → call_with r m' ≡ where_accepted v accepted (call_with (refused_answer v state) m) → (verdict_of s state boxes m ≡ Ok tt) × (call_with r m' ≡ accepted)
+      by_cases (Ok tt) e leaves = (e, leaves)
+      by_cases (Err why) e leaves =
+          let refuses : ◌≡◌ {A = Result ⊤ Refusal} (Err why) (Ok tt) = sym (ap (λ (k : Call UpdateAnswer Memory). k.answer.verdict) leaves) ∙ accepts in
+          let none : (answer (Err why)).0 ≡ 0 = ap (λ (v : Result ⊤ Refusal). (answer v).0) refuses in
           let high = refusal-high why in
           absurd (omega arith)
 
   -- the facts of its frame
-  pub accepted_facts : {r : UpdateAnswer} {m' : Memory} → call_with r m' ≡ updated s state boxes m → r.verdict ≡ Accepted
+  pub accepted_facts : {r : UpdateAnswer} {m' : Memory} → call_with r m' ≡ updated s state boxes m → r.verdict ≡ Ok tt
       → FrameFacts s state boxes (tracks_in m.table state.count) (labels_in m.table state.count) (worked s state boxes m) m'.table
   accepted_facts {r} {m'} ends accepts =
       let g : Stages = worked s state boxes m in
@@ -144,18 +144,18 @@ module _ (s : Settings) (state : State) (boxes : Boxes) (m : Memory) where
   same-frame = refl
 
   -- what a call answers and leaves by a verdict and a frame
-  abbrev By : Bool → Verdict → Stages → UpdateAnswer → Memory → Type 0
+  abbrev By : Bool → Result ⊤ Refusal → Stages → UpdateAnswer → Memory → Type 0
   By cap v g r m' = call_with r m' ≡ where_accepted v (call_with (accepted_answer g) (memory_after (with_cap_confidence s cap) (labels_of state boxes m g) g m)) (call_with (refused_answer v state) m)
 
   -- every two calls of `update`, by its contract, whose settings differ in cap_confidence alone
   pub cap_only : {r r' : UpdateAnswer} {m₁ m₂ : Memory} → call_with r m₁ ≡ updated without state boxes m → call_with r' m₂ ≡ updated capping state boxes m → CapOnly r m₁ r' m₂
   unfolding updated update_by steps stages_from
   cap_only {r} {r'} {m₁} {m₂} plain capped =
-      let judged : By true (verdict_of without state boxes m) (worked capping state boxes m) r' m₂ = subst (λ (v : Verdict). By true v (worked capping state boxes m) r' m₂) same-verdict capped in
+      let judged : By true (verdict_of without state boxes m) (worked capping state boxes m) r' m₂ = subst (λ (v : Result ⊤ Refusal). By true v (worked capping state boxes m) r' m₂) same-verdict capped in
       by_cases (verdict_of without state boxes m) plain (subst (λ (g : Stages). By true (verdict_of without state boxes m) g r' m₂) same-frame judged)
     where
-      by_cases : (v : Verdict) → By false v frame r m₁ → By true v frame r' m₂ → CapOnly r m₁ r' m₂
-      by_cases Accepted plain capped =
+      by_cases : (v : Result ⊤ Refusal) → By false v frame r m₁ → By true v frame r' m₂ → CapOnly r m₁ r' m₂
+      by_cases (Ok tt) plain capped =
           let answered : r ≡ accepted_answer frame = ap (λ (k : Call UpdateAnswer Memory). k.answer) plain in
           let left : m₁ ≡ memory_after without (labels_of state boxes m frame) frame m = ap (λ (k : Call UpdateAnswer Memory). k.lent) plain in
           let answered' : r' ≡ accepted_answer frame = ap (λ (k : Call UpdateAnswer Memory). k.answer) capped in
@@ -169,16 +169,16 @@ module _ (s : Settings) (state : State) (boxes : Boxes) (m : Memory) where
             output = laid-capped frame.frame_count s.min_hits frame.started.trackers (labels_of state boxes m frame) m.output;
             archived = laid-archived frame.frame_count s.min_hits frame.started.trackers (labels_of state boxes m frame) m.output;
           })
-      by_cases (Refused why) plain capped =
-          let answered : r ≡ refused_answer (Refused why) state = ap (λ (k : Call UpdateAnswer Memory). k.answer) plain in
+      by_cases (Err why) plain capped =
+          let answered : r ≡ refused_answer (Err why) state = ap (λ (k : Call UpdateAnswer Memory). k.answer) plain in
           let left : m₁ ≡ m = ap (λ (k : Call UpdateAnswer Memory). k.lent) plain in
-          let answered' : r' ≡ refused_answer (Refused why) state = ap (λ (k : Call UpdateAnswer Memory). k.answer) capped in
+          let answered' : r' ≡ refused_answer (Err why) state = ap (λ (k : Call UpdateAnswer Memory). k.answer) capped in
           let left' : m₂ ≡ m = ap (λ (k : Call UpdateAnswer Memory). k.lent) capped in
           rw (answered, left, answered', left') (record { answer = refl; table = refl; work64 = refl; work32 = refl; output = none-capped m.output; archived = λ i h. absurd (not-suc-le-zero h) })
 
 -- ---- equal labels
 
-module _ (label : ℕ) (s : Settings) (state : State) (boxes : Boxes) (m : Memory) (e : verdict_of s state boxes m ≡ Accepted) (one : OneLabel label state boxes m) where
+module _ (label : ℕ) (s : Settings) (state : State) (boxes : Boxes) (m : Memory) (e : verdict_of s state boxes m ≡ Ok tt) (one : OneLabel label state boxes m) where
   abbrev labelled : Stages
   labelled = worked s state boxes m
 

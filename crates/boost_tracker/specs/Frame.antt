@@ -1,11 +1,10 @@
--- What a call of `update` answers and leaves in lent memory: document 01, "When a call is turned down". The verdict is the table's; g is the definition's value.
-use Rattle.std.specs.Prelude.{List, ℕ, length, Float}
+-- What a call of `update` answers and leaves in lent memory. The verdict is the table's; g is the definition's value.
+use Rattle.std.specs.Prelude.{List, ℕ, length, Float, ⊤, Result, Ok}
 use Rattle.laws.specs.Laid.{laid}
 use Rattle.assoc_matching.specs.Answers.{zeroed}
 use Rattle.assoc.specs.Answers.{cleared}
 use Rattle.records.specs.TrackRecord.{track_bytes}
-use Rattle.boost_tracker_verdict.specs.declared.refusal.Verdict.{Verdict}
-use Rattle.boost_tracker_verdict.specs.declared.refusal.Verdict.TheVariants.{Accepted}
+use Rattle.boost_tracker_verdict.specs.declared.refusal.Refusal.{Refusal}
 use Rattle.boost_tracker_settings.specs.declared.settings.Settings.{Settings}
 use Rattle.boost_tracker_verdict.specs.declared.sound.State.{State}
 use Rattle.boost_tracker_table.specs.Lent.{Table, table_with, tracks_in, labels_in, holding, Call, call_with}
@@ -18,11 +17,11 @@ use Rattle.boost_tracker_definition.specs.Update.{Stages, update, state_after, l
 -- ---- the answer
 
 -- of a refused frame: the state that was given, and no counts
-abbrev pub refused_answer : Verdict → State → UpdateAnswer
+abbrev pub refused_answer : Result ⊤ Refusal → State → UpdateAnswer
 refused_answer v state = record { verdict = v; state = state; emitted = 0; turns = 0; scans = 0 }
 
 abbrev pub accepted_answer : Stages → UpdateAnswer
-accepted_answer g = record { verdict = Accepted; state = state_after g; emitted = length g.output; turns = g.result.turns; scans = g.result.scans }
+accepted_answer g = record { verdict = Ok tt; state = state_after g; emitted = length g.output; turns = g.result.turns; scans = g.result.scans }
 
 -- ---- lent memory
 
@@ -48,7 +47,7 @@ memory_after s all g m = record {
 
 -- ---- a call
 
-abbrev pub verdict_of : Settings → State → Boxes → Memory → Verdict
+abbrev pub verdict_of : Settings → State → Boxes → Memory → Result ⊤ Refusal
 verdict_of s state boxes m = verdict s state m.table boxes (length m.output) (length m.work64) (length m.work32)
 
 -- the definition's value, and the labels of all trackers in it
@@ -61,6 +60,6 @@ labels_of state boxes m g = labels_started boxes.labels (labels_in m.table state
 -- a refused call changes nothing
 unfoldable pub updated : Settings → State → Boxes → Memory → Call UpdateAnswer Memory
 updated s state boxes m =
-    let v : Verdict = verdict_of s state boxes m in
+    let v : Result ⊤ Refusal = verdict_of s state boxes m in
     let g : Stages = worked s state boxes m in
     where_accepted v (call_with (accepted_answer g) (memory_after s (labels_of state boxes m g) g m)) (call_with (refused_answer v state) m)

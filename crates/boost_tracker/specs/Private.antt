@@ -1,8 +1,7 @@
 -- What only the contract of a private function cites: what step 8 asks for, answers and leaves.
-use Rattle.std.specs.Prelude.{List, ℕ, ◌+◌, ◌≤◌, ◌<◌, ◌^◌, length, Float}
+use Rattle.std.specs.Prelude.{List, ℕ, ◌+◌, ◌≤◌, ◌<◌, ◌^◌, length, Float, Ok}
 use Rattle.laws.specs.Laid.{laid}
 use Rattle.records.specs.TrackRecord.{track_bytes}
-use Rattle.boost_tracker_verdict.specs.declared.refusal.Verdict.TheVariants.{Accepted}
 use Rattle.boost_tracker_settings.specs.declared.settings.Settings.{Settings}
 use Rattle.boost_tracker_verdict.specs.declared.sound.State.{State}
 use Rattle.boost_tracker_table.specs.Table.{Track, young, retained, labels_where}
@@ -30,7 +29,7 @@ ending_with floats counters labels output = record { table = table_with floats c
 
 -- the answer for so many tracks that stay and that are put out
 abbrev pub answer_of : State → Advanced → ℕ → ℕ → UpdateAnswer
-answer_of state a count emitted = record { verdict = Accepted; state = record { count = count; last = state.last + a.started; frames = state.frames + 1 }; emitted = emitted; turns = a.turns; scans = a.scans }
+answer_of state a count emitted = record { verdict = Ok tt; state = record { count = count; last = state.last + a.started; frames = state.frames + 1 }; emitted = emitted; turns = a.turns; scans = a.scans }
 
 -- all tracks are looked at for the output, then those too old are retired, and the places behind the others cleared
 unfoldable pub finished : Settings → State → Advanced → Ending → Call UpdateAnswer Ending

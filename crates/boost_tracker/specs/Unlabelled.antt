@@ -1,6 +1,6 @@
 -- Document 02, N2: "With equal labels everywhere the results are those of before." Of the frame boost_tracker_definition's Unlabelled says it; here it is said of a call of `update` and all that it leaves: pairs, lists and
 -- counts, the table but its labels, the records but their labels; and the labels that it leaves are that one label. `equal_labels` of proofs/Theorem.antt proves it.
-use Rattle.std.specs.Prelude.{◌≡◌, Bool, List, ◌++◌, ℕ, ◌<◌, length, replicate}
+use Rattle.std.specs.Prelude.{◌≡◌, Bool, List, ◌++◌, ℕ, ◌<◌, length, replicate, Ok}
 use Rattle.laws.specs.Laid.{laid}
 use Rattle.labels.specs.Label.{label_at}
 use Rattle.floats.specs.Single.{plus_zero}
@@ -9,7 +9,6 @@ use Rattle.assoc.specs.Answers.{cleared}
 use Rattle.records.specs.declared.track_record.TrackRecord.{TrackRecord}
 use Rattle.records.specs.Field.{little_endian, five}
 use Rattle.records.specs.TrackRecord.{track_bytes}
-use Rattle.boost_tracker_verdict.specs.declared.refusal.Verdict.TheVariants.{Accepted}
 use Rattle.boost_tracker_settings.specs.declared.settings.Settings.{Settings}
 use Rattle.boost_tracker_verdict.specs.declared.sound.State.{State}
 use Rattle.boost_tracker_table.specs.Table.{Track, place_floats, place_counters, floats_of, counters_of, filled_up, zero_filled}
@@ -61,4 +60,4 @@ pub record ResultsOfBefore (label : ℕ) (s : Settings) (state : State) (boxes :
 abbrev pub EqualLabels : Type 0
 EqualLabels =
     (label : ℕ) (s : Settings) (state : State) (boxes : Boxes) (m : Memory) (r : UpdateAnswer) (m' : Memory)
-    → call_with r m' ≡ updated s state boxes m → r.verdict ≡ Accepted → OneLabel label state boxes m → ResultsOfBefore label s state boxes m (before s state boxes m) r m'
+    → call_with r m' ≡ updated s state boxes m → r.verdict ≡ Ok tt → OneLabel label state boxes m → ResultsOfBefore label s state boxes m (before s state boxes m) r m'

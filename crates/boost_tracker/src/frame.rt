@@ -1,5 +1,5 @@
 // A frame: its steps 1 to 7, and where it is accepted step 8, the output and the tracks that are retained.
-ghost use Rattle.std.specs.Prelude.{◌≡◌, ◌/◌, length};
+ghost use Rattle.std.specs.Prelude.{◌≡◌, ◌/◌, length, Err};
 ghost use Rattle.records.specs.TrackRecord.{track_bytes};
 ghost use Rattle.boost_tracker_table.specs.Table.{places_in};
 ghost use Rattle.boost_tracker_table.specs.Lent.{call_with};
@@ -9,12 +9,13 @@ ghost use Rattle.boost_tracker.specs.Frame.{refused_answer, memory_with, updated
 
 use boost_tracker_settings::Settings;
 use boost_tracker_steps::{Advanced, advance};
-use boost_tracker_verdict::{State, Verdict};
+use boost_tracker_verdict::{Refusal, State};
 
 // The state is the new one, or the one given where the frame is refused; the counts are 0 there.
+// Kept: WholeOrTurnedDown of specs/Whole.antt speaks of the state and the counts beside a refusal too, and bedside_update hands them out.
 #[derive(Clone, Copy)]
 pub struct UpdateAnswer {
-    pub verdict: Verdict,
+    pub verdict: Result<(), Refusal>,
     pub state: State,
     // track records written to the output
     pub emitted: usize,
@@ -61,7 +62,7 @@ fn finish(
         frames: frame,
     };
     UpdateAnswer {
-        verdict: Verdict::Accepted,
+        verdict: Ok(()),
         state: after,
         emitted,
         turns: advanced.turns,
@@ -69,11 +70,11 @@ fn finish(
     }
 }
 
-fn refused(verdict: Verdict, state: State) -> UpdateAnswer
-    ensures { result ≡ refused_answer verdict state }
+fn refused(why: Refusal, state: State) -> UpdateAnswer
+    ensures { result ≡ refused_answer (Err why) state }
 {
     UpdateAnswer {
-        verdict,
+        verdict: Err(why),
         state,
         emitted: 0,
         turns: 0,
@@ -110,9 +111,8 @@ pub fn update(
         work64,
         work32,
     );
-    let verdict = advanced.verdict;
-    let Verdict::Accepted = verdict else {
-        return refused(verdict, state);
-    };
-    finish(settings, state, advanced, floats, counters, labels, out)
+    match advanced {
+        Ok(steps) => finish(settings, state, steps, floats, counters, labels, out),
+        Err(why) => refused(why, state),
+    }
 }

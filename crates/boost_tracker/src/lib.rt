@@ -4,5 +4,5 @@
 mod frame;
 
 pub use boost_tracker_settings::Settings;
-pub use boost_tracker_verdict::{Refusal, State, Verdict};
+pub use boost_tracker_verdict::{Refusal, State};
 pub use frame::{UpdateAnswer, update};

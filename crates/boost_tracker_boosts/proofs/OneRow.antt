@@ -13,8 +13,9 @@ use Rattle.laws.specs.Tab.{tab}
 use Rattle.laws.specs.Laid.{rows, laid}
 use Rattle.laws.specs.Packed.{packed}
 use Rattle.laws.specs.Grid.{grid}
-use Rattle.refusals.specs.declared.refusal.Verdict.{Verdict}
-use Rattle.refusals.specs.declared.refusal.Verdict.TheVariants.{Accepted}
+use Rattle.std.specs.Bool.{⊤}
+use Rattle.std.proofs.Common.{Result, Ok}
+use Rattle.refusals.specs.declared.refusal.Refusal.{Refusal}
 use Rattle.assoc_similarity.specs.Sizes.{of_corners, after}
 use Rattle.assoc_similarity.specs.Overlap.{iou_batch}
 use Rattle.boost_tracker_boosts.specs.Rows.{OneBox}
@@ -22,11 +23,11 @@ use Rattle.boost_tracker_boosts.specs.Rows.{OneBox}
 -- ---- the row of one box
 
 accepted-corners : (boxes tracks detections corners out : ℕ) → boxes ≤ 255 → tracks ≤ 255 → detections ≡ boxes * 4 → corners ≡ tracks * 4 → boxes * tracks ≤ out
-    → of_corners boxes tracks detections corners out ≡ Accepted
+    → of_corners boxes tracks detections corners out ≡ Ok tt
 accepted-corners boxes tracks detections corners out b t d c o =
     rw (le-ltb 255 boxes b, le-ltb 255 tracks t, eq-eqb detections (boxes * 4) d, eq-eqb corners (tracks * 4) c, le-ltb out (boxes * tracks) o)
 
-pub one-accepted : {det trks row : ℕ} → OneBox det trks row → of_corners 1 row det trks row ≡ Accepted
+pub one-accepted : {det trks row : ℕ} → OneBox det trks row → of_corners 1 row det trks row ≡ Ok tt
 one-accepted {det} {trks} {row} w = accepted-corners 1 row det trks row (omega arith) w.few w.four w.trks_fit (omega arith)
 
 one-row : (f : ℕ → ℕ → Float) (m : ℕ) (l : List Float) → length l ≡ m → grid f 1 m l ≡ tab (f 0) m
@@ -36,10 +37,10 @@ one-row f m l e =
     ap (λ (r : List Float). (tab (f 0) m ++ []) ++ r) none ∙ append-nil (tab (f 0) m ++ []) ∙ append-nil (tab (f 0) m)
 
 -- what an accepted call leaves, and one for one box leaves in a row
-pub matrix_filled : (f : ℕ → ℕ → Float) (n m : ℕ) (l : List Float) {out : List Float} {r : Verdict} → r ≡ Accepted → out ≡ after r f n m l → out ≡ grid f n m l
-matrix_filled f n m l a e = e ∙ ap (λ (v : Verdict). after v f n m l) a
+pub matrix_filled : (f : ℕ → ℕ → Float) (n m : ℕ) (l : List Float) {out : List Float} {r : Result ⊤ Refusal} → r ≡ Ok tt → out ≡ after r f n m l → out ≡ grid f n m l
+matrix_filled f n m l a e = e ∙ ap (λ (v : Result ⊤ Refusal). after v f n m l) a
 
-pub row-filled : (f : ℕ → ℕ → Float) (m : ℕ) (l : List Float) {out : List Float} {r : Verdict} → r ≡ Accepted → out ≡ after r f 1 m l → length l ≡ m → out ≡ tab (f 0) m
+pub row-filled : (f : ℕ → ℕ → Float) (m : ℕ) (l : List Float) {out : List Float} {r : Result ⊤ Refusal} → r ≡ Ok tt → out ≡ after r f 1 m l → length l ≡ m → out ≡ tab (f 0) m
 row-filled f m l a e n = matrix_filled f 1 m l a e ∙ one-row f m l n
 
 -- ---- box i of a list of corners, as a list of its own

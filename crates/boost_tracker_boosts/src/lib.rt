@@ -4,5 +4,6 @@
 mod rows;
 mod sizes;
 
+pub use refusals::too_many;
 pub use rows::largest;
-pub use sizes::{of_boost, too_many};
+pub use sizes::of_boost;

@@ -9,10 +9,8 @@ pub fn largest(start: f32, row: &[f32]) -> f32
     ensures { result ≡ fold (λ most j. larger most (get_or row.now j nan)) start (length row.now) }
 {
     let mut most = start;
-    let mut j = 0;
-    while j < row.len() {
-        most = floats_pick::max(most, row[j]);
-        j += 1;
+    for cell in row {
+        most = floats_pick::max(most, *cell);
     }
     most
 }

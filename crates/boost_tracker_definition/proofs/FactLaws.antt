@@ -23,7 +23,7 @@ use Rattle.assoc_matching.specs.Matching.{Pair, pair, boxes_of, tracks_of}
 use Rattle.assoc_assignment.specs.Account.{Accounted}
 use Rattle.assoc.specs.Association.{ious, stands}
 use Rattle.assoc.proofs.Theorem.{account, stands_alike}
-use Rattle.boost_tracker_verdict.specs.declared.refusal.Verdict.TheVariants.{Accepted}
+use Rattle.std.proofs.Common.{Ok}
 use Rattle.boost_tracker_settings.specs.declared.settings.Settings.{Settings}
 use Rattle.boost_tracker_verdict.specs.declared.sound.State.{State}
 use Rattle.boost_tracker_table.specs.Table.{Track, blank, young, retained, Emptied}
@@ -224,7 +224,7 @@ unfolding result
 result_account self boxes probs trackers ts cs box_labels labels few-boxes few-tracks =
     account same_label (params self (length probs) (length trackers)) (length probs) (length trackers) boxes ts (mh_dist (length probs) boxes trackers) cs probs box_labels labels few-boxes few-tracks
 
-module _ (s : Settings) (state : State) (t : Table) (boxes : Boxes) (out work64 work32 : ℕ) (e : verdict s state t boxes out work64 work32 ≡ Accepted) where
+module _ (s : Settings) (state : State) (t : Table) (boxes : Boxes) (out work64 work32 : ℕ) (e : verdict s state t boxes out work64 work32 ≡ Ok tt) where
   abbrev held : List Track
   held = tracks_in t state.count
 

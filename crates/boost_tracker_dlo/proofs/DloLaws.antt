@@ -1,5 +1,6 @@
 -- The boost a row at a time is the definition's boost, part after part. Assumes nothing.
-use Rattle.std.proofs.Common.{◌≡◌, ℕ, ◌+◌, ◌*◌, ◌<◌, Bool, true, false, cond, not, ◌||◌, eqb, List, [], ◌∷◌, length, get_or, take, drop, sym, refl, ap, ◌∙◌, zero-add, arith, eq-eqb, ne_eqb}
+use Rattle.std.proofs.Common.{◌≡◌, ℕ, ◌+◌, ◌-◌, ◌*◌, ◌<◌, Bool, true, false, cond, not, ◌||◌, eqb, List, [], ◌∷◌, length, get_or, get_or-take, get_or-drop, take, drop, sym, refl, ap, ◌∙◌, zero-add, arith, eq-eqb, ne_eqb, Result, Ok, Err}
+use Rattle.std.specs.Bool.{⊤}
 use native.Mathlib.Decide.{ℕ_discrete}
 use lib.Ieee.{Float, nan, lt}
 use Rattle.laws.specs.Tab.{tab, tab-at, tab_ext, length-tab}
@@ -13,8 +14,6 @@ use Rattle.assoc_similarity.specs.Overlap.{iou_batch, soft_biou_batch}
 use Rattle.assoc_similarity.specs.Shape.{shape_similarity_v1, shape_similarity_v2}
 use Rattle.assoc_similarity.specs.Mahalanobis.{mh_dist_similarity}
 use Rattle.refusals.specs.declared.refusal.Refusal.{Refusal}
-use Rattle.refusals.specs.declared.refusal.Verdict.{Verdict}
-use Rattle.refusals.specs.declared.refusal.Verdict.TheVariants.{Accepted, Refused}
 use Rattle.assoc_similarity.specs.Sizes.{after}
 use Rattle.boost_tracker_dlo.specs.declared.dlo.DloSettings.{DloSettings}
 use Rattle.boost_tracker_dlo.specs.Dlo.{similarity, threshold, max_s, coefficient, soft, should_boost, varying, boosted, dlo_confidence_boost}
@@ -44,6 +43,14 @@ module _ (q : DloSettings) (det trks confs : List Float) (mhd : ℕ → Float) (
       let long : length sh ≡ n = ap length s ∙ length-tab _ n in
       o ∙ ap (tab (λ j. third (mhd j) (get_or sh j nan) (get_or sb j nan))) long
       ∙ tab_ext _ _ n (λ j h. rw (e, s, b, tab-at (shape_row q.corrected det trks) n j nan h, tab-at (soft_biou_batch det trks confs 0) n j nan h))
+
+-- the row of the distances, read as a part of the matrix
+pub part_row : (q : DloSettings) (det trks confs mhd : List Float) (at n : ℕ) {row : List Float}
+    → row ≡ tab (row_similarity q det trks confs (λ j. get_or (take (at + n - at) (drop at mhd)) j nan)) n → row ≡ tab (row_similarity q det trks confs (λ j. get_or mhd (at + j) nan)) n
+unfolding row_similarity
+part_row q det trks confs mhd at n e =
+    e ∙ tab_ext _ _ n (λ j h. ap (λ (m : Float). cond q.rich (third m (shape_row q.corrected det trks j) (soft_biou_batch det trks confs 0 j)) (iou_batch det trks 0 j))
+    (get_or-take _ (drop at mhd) j nan (omega (arith, h)) ∙ get_or-drop at mhd j nan))
 
 -- the cells of tracks of another label set to 0
 pub alike-row-is : (label : ℕ) (labels : List ℕ) (f : ℕ → Float) (n : ℕ) {row out : List Float} → row ≡ tab f n
@@ -142,12 +149,12 @@ boost_none like q detections trks confs mh_dist since boxes tracks scores e = rw
 -- ---- an accepted call
 
 module _ (q : DloSettings) (distance : List Float) (boxes tracks : ℕ) where
-  pub mhd_accepted : {out : List Float} {r : Verdict} → r ≡ Accepted → out ≡ mhd_left q.rich boxes tracks distance
+  pub mhd_accepted : {out : List Float} {r : Result ⊤ Refusal} → r ≡ Ok tt → out ≡ mhd_left q.rich boxes tracks distance
       → out ≡ cond q.rich (after r (mh_dist_similarity distance one boxes tracks) boxes tracks distance) distance
   unfolding mhd_left
   mhd_accepted a e = e ∙ rw a
 
-  pub mhd_refused : {why : Refusal} {r : Verdict} → r ≡ Refused why → distance ≡ cond q.rich (after r (mh_dist_similarity distance one boxes tracks) boxes tracks distance) distance
+  pub mhd_refused : {why : Refusal} {r : Result ⊤ Refusal} → r ≡ Err why → distance ≡ cond q.rich (after r (mh_dist_similarity distance one boxes tracks) boxes tracks distance) distance
   mhd_refused a = rw a (same q.rich)
     where
       same : (b : Bool) → distance ≡ cond b distance distance

@@ -1,7 +1,6 @@
 -- What an accepted call knows of its sizes, and sizes with which a call of a matrix routine is accepted. Assumes nothing.
-use Rattle.std.proofs.Common.{◌≡◌, ℕ, ◌*◌, ◌||◌, ltb, ltb-false, le-ltb}
+use Rattle.std.proofs.Common.{◌≡◌, ℕ, ◌*◌, ◌||◌, ltb, ltb-false, le-ltb, Ok}
 use Rattle.laws.specs.Tests.{or_none}
-use Rattle.refusals.specs.declared.refusal.Verdict.TheVariants.{Accepted}
 use Rattle.refusals.specs.Refusal.{too_many}
 use Rattle.assoc_similarity.specs.Sizes.{of_cells}
 use Rattle.refusals.proofs.Laws.{passed, few-sides}
@@ -18,7 +17,7 @@ pub record DloReady (boxes tracks detections trks confs since distance scores : 
   pub since_fits : since ≡ tracks
   pub scores_fit : scores ≡ boxes
 
-pub dlo-ready : (boxes tracks detections trks confs since distance scores : ℕ) → of_dlo boxes tracks detections trks confs since distance scores ≡ Accepted
+pub dlo-ready : (boxes tracks detections trks confs since distance scores : ℕ) → of_dlo boxes tracks detections trks confs since distance scores ≡ Ok tt
     → DloReady boxes tracks detections trks confs since distance scores
 dlo-ready boxes tracks detections trks confs since distance scores e =
     let a = passed (too_many boxes tracks) (other_tracks tracks trks confs since || other_boxes boxes detections scores) (ltb distance (boxes * tracks)) e in
@@ -37,5 +36,5 @@ dlo-ready boxes tracks detections trks confs since distance scores e =
 
 -- ---- accepted
 
-pub accepted-cells : (boxes tracks distance : ℕ) → Measured boxes tracks distance → of_cells boxes tracks distance ≡ Accepted
+pub accepted-cells : (boxes tracks distance : ℕ) → Measured boxes tracks distance → of_cells boxes tracks distance ≡ Ok tt
 accepted-cells boxes tracks distance w = rw (le-ltb 255 boxes w.boxes-few, le-ltb 255 tracks w.tracks-few, le-ltb distance (boxes * tracks) w.room)

@@ -51,20 +51,10 @@ unfoldable pub boosted_score : DloSettings → List Float → List Float → Lis
 boosted_score q detections trks confs mhd since label labels i score =
     row_score q (alike_row label labels (row_similarity q (take 4 (drop (i * 4) detections)) trks confs (λ j. slice_index_or mhd (i * length since + j) nan))) (λ j. slice_index since j) (length since) score
 
--- lengths of the slices where box i is within them
-pub record Framed (i detections trks confs mhd since : ℕ) : Type 0 where
-  pub inside : i * 4 + 4 ≤ detections
-  pub trks_fit : trks ≡ since * 4
-  pub confs_fit : confs ≡ since
-  pub row_inside : i * since + since ≤ mhd
-  pub few : since ≤ 255
-
-pub record Ready (detections trks confs mhd since scores : ℕ) : Type 0 where
+-- lengths of the slices of the boxes, and how many tracks there are
+pub record Ready (detections mhd since scores : ℕ) : Type 0 where
   pub detections_fit : detections ≡ scores * 4
-  pub trks_fit : trks ≡ since * 4
-  pub confs_fit : confs ≡ since
   pub room : scores * since ≤ mhd
-  pub few : since ≤ 255
 
 pub record Measured (boxes tracks distance : ℕ) : Type 0 where
   pub boxes-few : boxes ≤ 255

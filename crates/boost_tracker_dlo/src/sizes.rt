@@ -3,7 +3,7 @@ ghost use Rattle.std.specs.Prelude.{◌≡◌, ◌≤◌};
 ghost use Rattle.boost_tracker_dlo.specs.Sizes as Sizes;
 
 use boost_tracker_boosts::{of_boost, too_many};
-use refusals::{Refusal, Verdict};
+use refusals::Refusal;
 
 fn other_tracks(tracks: usize, corners: usize, confidences: usize, since: usize) -> bool
     requires { tracks ≤ 255 }
@@ -21,14 +21,14 @@ pub(crate) fn of_dlo(
     since: usize,
     distance: usize,
     scores: usize,
-) -> Verdict
+) -> Result<(), Refusal>
     ensures { result ≡ Sizes.of_dlo boxes tracks detections corners confidences since distance scores }
 {
     if too_many(boxes, tracks) {
-        return Verdict::Refused(Refusal::TooMany);
+        return Err(Refusal::TooMany);
     }
     if other_tracks(tracks, corners, confidences, since) {
-        return Verdict::Refused(Refusal::OtherSize);
+        return Err(Refusal::OtherSize);
     }
     of_boost(boxes, tracks, detections, distance, scores)
 }

@@ -2,11 +2,12 @@
 use mathlib.Core.Path.{◌≡◌, refl, sym, ap, ◌∙◌}
 use mathlib.Core.Bool.{Bool, true, false, cond, not, ◌&&◌, ◌||◌}
 use mathlib.Core.List.{List, [], ◌∷◌, ◌++◌, map, map-append, foldl, foldl-append}
-use Prim.Native.Nat.{ℕ, zero, suc, ◌+◌, ◌*◌, ◌≤◌, ◌<◌, zero-le}
-use native.Mathlib.Nat.{le_refl}
+use Prim.Native.Nat.{ℕ, zero, suc, ◌+◌, ◌-◌, ◌*◌, ◌≤◌, ◌<◌, zero-le}
+use native.Mathlib.Nat.{le_refl, add-sub_cancel_left}
 use native.Mathlib.Decide.{ℕ_discrete}
 use native.Mathlib.Omega.{arith}
 use lib.Dec.{eqb, ltb, leb}
+use borrow.Rule.Slice.PartMut.{mid_len}
 use borrow.Author.Tests.{eq-eqb, ne_eqb, eqb-true}
 use lib.ListN.{length, get_or, set, take, drop, length-append}
 use lib.Seq.{take_at, get_or-take, get_or-drop}
@@ -22,14 +23,21 @@ use Rattle.laws.specs.Count.{bit}
 use Rattle.laws.specs.Occurs.{occurs, occurs-sieve, occurs-indices, occurs-apart, occurs-below}
 use Rattle.laws.specs.Elem.{elem, elem-append}
 use Rattle.laws.specs.Picked.{fold-picked, foldl_image, sieve-sieve, sieve_image, picked_ext, elem-picked, elem_image, elem_either}
-use Rattle.floats_pick.specs.Pick.{larger}
+use Rattle.floats_pick.specs.Pick.{larger, smaller}
 use Rattle.floats.specs.Single.{◌⊕◌, ◌⊖◌, one}
 use Rattle.assoc_similarity.specs.Overlap.{iou_batch}
 use Rattle.boost_tracker_boosts.proofs.OneRow.{one-iou}
-use Rattle.boost_tracker_duo.specs.Duo.{iou_limit, neg_infinity, is_candidate, boost_candidates, bdiou, bdiou_max, remaining, args, tmp, args_set, args_tmp, conf_max, is_most, remaining_boxes, masked, duo_confidence_boost}
-use Rattle.boost_tracker_duo.specs.Private.{box_of, boxes_of, own, own_max, conf_with, conf_row, most_of, remains, raised_by, Listed, Candidates, duo_of}
+use Rattle.boost_tracker_duo.specs.Duo.{max_f32, iou_limit, neg_infinity, is_candidate, boost_candidates, bdiou, bdiou_max, remaining, args, tmp, args_set, args_tmp, conf_max, is_most, remaining_boxes, masked, duo_confidence_boost}
+use Rattle.boost_tracker_duo.specs.Private.{box_of, boxes_of, own, own_max, conf_with, conf_row, most_of, remains, raised_by, Candidates, duo_of}
 
 -- ---- the candidates
+
+-- the least of a row, read as a part of the matrix
+pub least-is : (distance : List Float) (at tracks : ℕ) → at + tracks ≤ length distance
+    → fold (λ m j. smaller m (get_or (take (at + tracks - at) (drop at distance)) j nan)) max_f32 (length (take (at + tracks - at) (drop at distance))) ≡ fold (λ m j. smaller m (get_or distance (at + j) nan)) max_f32 tracks
+least-is distance at tracks h =
+    let long : length (take (at + tracks - at) (drop at distance)) ≡ tracks = mid_len at (at + tracks) distance h ∙ add-sub_cancel_left at tracks in
+    rw long (fold_ext _ _ max_f32 tracks (λ m j l. ap (smaller m) (get_or-take _ (drop at distance) j nan (omega (arith, l)) ∙ get_or-drop at distance j nan)))
 
 -- they are distinct indices of boxes
 module _ (mh_dist : ℕ → ℕ → Float) (thresh : Float) (n tracks : ℕ) (scores : List Float) where
@@ -294,7 +302,3 @@ module _ (thresh : Float) (detections : List Float) (mh_dist : ℕ → ℕ → F
 
   pub duo-few : {l out : List ℕ} {k : ℕ} → Pushed l found k out → length scores ≤ length l → k ≤ length out
   duo-few w h = omega (arith, w.many, w.same, few-candidates mh_dist thresh (length scores) tracks scores)
-
--- indices of boxes by the length of their corners
-pub listed_in : {cs : List ℕ} {d s : ℕ} → Candidates cs d s → Listed cs d
-listed_in w i h = let k = w.scored i h in omega (arith, w.detections_fit)

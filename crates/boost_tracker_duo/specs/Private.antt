@@ -48,32 +48,12 @@ Listed candidates detections = (i : ℕ) → i < length candidates → get_or ca
 abbrev pub Scored : List ℕ → ℕ → Type 0
 Scored candidates scores = (i : ℕ) → i < length candidates → get_or candidates i 0 < scores
 
-pub record Marking (candidates : List ℕ) (bboxes max scores marks : ℕ) : Type 0 where
-  pub bboxes_fit : bboxes ≡ length candidates * 4
-  pub max_fits : max ≡ length candidates
-  pub marks_fit : marks ≡ length candidates
-  pub few : length candidates ≤ 255
-  pub scored : Scored candidates scores
-
-pub record Chosen (candidates : List ℕ) (bboxes max scores i : ℕ) : Type 0 where
-  pub inside : i < length candidates
-  pub bboxes_fit : bboxes ≡ length candidates * 4
-  pub max_fits : max ≡ length candidates
-  pub few : length candidates ≤ 255
-  pub scored : Scored candidates scores
-
 -- distinct indices of boxes, at most 255
 pub record Candidates (candidates : List ℕ) (detections scores : ℕ) : Type 0 where
   pub few : length candidates ≤ 255
   pub detections_fit : detections ≡ scores * 4
   pub scored : Scored candidates scores
   pub apart : (i j : ℕ) → i < length candidates → j < length candidates → get_or candidates i 0 ≡ get_or candidates j 0 → i ≡ j
-
-pub record Boosting (candidates : List ℕ) (detections bboxes max marks scores : ℕ) : Type 0 where
-  pub listed : Candidates candidates detections scores
-  pub bboxes_fit : bboxes ≡ length candidates * 4
-  pub max_fits : max ≡ length candidates
-  pub marks_fit : marks ≡ length candidates
 
 pub record DuoReady (tracks detections distance scores : ℕ) : Type 0 where
   pub few : scores ≤ 255

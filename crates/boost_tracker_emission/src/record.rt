@@ -1,4 +1,4 @@
-// What the Rust's update emits of a track, as a track record: boost_tracker.rs, lines 365-382; and the record as it is written.
+// What is put out of a track, as a track record; and the record as it is written.
 ghost use Rattle.std.specs.Prelude.{◌≡◌};
 ghost use Rattle.boost_tracker_emission.specs.Record.{record_of, written};
 
@@ -6,6 +6,7 @@ use records::TrackRecord;
 use strack::rect::Rect;
 use strack::strack::KalmanBoxTracker;
 
+#[tactic(auto, unfolding(crate::specs::Record::record_of))]
 pub(crate) fn record_of(frame: u32, t: KalmanBoxTracker, label: u8) -> TrackRecord
     ensures { result ≡ record_of frame t label }
 {
@@ -29,7 +30,6 @@ pub(crate) fn written(mut r: TrackRecord, cap: bool) -> TrackRecord
 {
     if cap & (r.confidence > 1.0) {
         r.confidence = 1.0;
-        return r;
     }
     r
 }

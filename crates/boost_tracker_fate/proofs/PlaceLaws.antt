@@ -11,7 +11,12 @@ use lib.ListN.{length, length-append, get_or}
 use Rattle.laws.specs.Tests.{true_not_false, false_not_true}
 use Rattle.laws.specs.Tab.{tab, indices}
 use Rattle.laws.specs.Count.{bit, count_where}
-use Rattle.laws.specs.Scan.{scan, lowest}
+use Rattle.std.specs.List.{position, position_or_len}
+use Rattle.std.specs.Option.{unwrap_or}
+use Rattle.std.proofs.Common.{Option, Some, None}
+use Rattle.std.proofs.lemmas.Grind.{common_steps}
+use Rattle.std.proofs.lemmas.List.Sums.{prefix_len-le-length}
+use Rattle.std.proofs.lemmas.List.Recursion.{is_position_or_len}
 use Rattle.laws.specs.Sieve.{sieve, sieve-more}
 use Rattle.laws.specs.Elem.{elem, elem-occurs}
 use Rattle.laws.specs.Occurs.{occurs, occurs-sieve, occurs-indices}
@@ -74,21 +79,17 @@ place-back k (x ∷ xs) ys e = by_cases (eqb k x) e (place-back k xs ys)
     by_cases true f r = absurd (true_not_false f)
     by_cases false f r = let q = r f in omega arith
 
--- ---- as a loop finds it
+-- ---- as std's search finds it
 
-scan_up : (p q : ℕ → Bool) (k n : ℕ) → ((i : ℕ) → p (suc i) ≡ q i) → scan p (suc k) n ≡ suc (scan q k n)
-unfolding scan
-scan_up p q k zero e = refl
-scan_up p q k (suc n) e = rw (e k, scan_up p q (suc k) n e) (by_cases (q k))
-  where
-    by_cases : (b : Bool) → cond b (suc k) (suc (scan q (suc k) n)) ≡ suc (cond b k (scan q (suc k) n))
-    by_cases true = refl
-    by_cases false = refl
+unwrap_cut : (a n : ℕ) → a ≤ n → unwrap_or (cond (ltb a n) (Some a) None) n ≡ a
+unwrap_cut a n h = grind (arith, common_steps)
 
-pub place-scan : (k : ℕ) (xs : List ℕ) → place_in k xs ≡ lowest (λ i. eqb k (get_or xs i 0)) (length xs)
-unfolding place_in scan
-place-scan k [] = refl
-place-scan k (x ∷ xs) = rw (scan_up (λ i. eqb k (get_or (x ∷ xs) i 0)) (λ i. eqb k (get_or xs i 0)) 0 (length xs) (λ i. refl), place-scan k xs)
+place_position : (k : ℕ) (xs : List ℕ) → place_in k xs ≡ position_or_len (eqb k) xs
+unfolding place_in
+place_position k xs = is_position_or_len (place_in k) (eqb k) refl (λ x ys. let e : 1 + place_in k ys ≡ suc (place_in k ys) = omega arith in rw e) xs
+
+pub place-found : (k : ℕ) (xs : List ℕ) (r : Option ℕ) → r ≡ position (eqb k) xs → unwrap_or r (length xs) ≡ place_in k xs
+place-found k xs r e = rw (e, place_position k xs) (unwrap_cut (position_or_len (eqb k) xs) (length xs) (prefix_len-le-length _ xs))
 
 -- ---- among the indices that pass a test
 

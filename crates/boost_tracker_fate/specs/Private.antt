@@ -1,5 +1,5 @@
 -- What the contracts of functions cite that are `pub` for the crate above alone: what the lists of the pairs say of a box, and what is told of it.
-use Rattle.std.specs.Prelude.{Bool, true, false, cond, List, ℕ, ◌+◌, ◌-◌, ltb, length, get_or, Float}
+use Rattle.std.specs.Prelude.{Bool, cond, List, ℕ, ◌+◌, ◌-◌, ltb, length, get_or, Float, Option, Some, None}
 use Rattle.boost_tracker_fate.specs.declared.kinds.Lot.{Lot}
 use Rattle.boost_tracker_fate.specs.declared.kinds.Lot.TheVariants.{Under, Paired, Refused, Alone}
 use Rattle.boost_tracker_fate.specs.declared.kinds.Fate.{Fate}
@@ -23,17 +23,11 @@ lot_by retained d rejected pair_boxes pair_tracks unmatched left =
 
 -- ---- of a lot
 
-abbrev pub has_track : Lot → Bool
-has_track Under = false
-has_track (Paired t) = true
-has_track (Refused t place) = true
-has_track (Alone place) = false
-
-abbrev pub track_of : Lot → ℕ
-track_of Under = 0
-track_of (Paired t) = t
-track_of (Refused t place) = t
-track_of (Alone place) = 0
+abbrev pub track_of : Lot → Option ℕ
+track_of Under = None
+track_of (Paired t) = Some t
+track_of (Refused t place) = Some t
+track_of (Alone place) = None
 
 abbrev pub place_of : Lot → ℕ
 place_of Under = 0

@@ -7,4 +7,4 @@ mod places;
 
 pub use kinds::{Explanation, Fate, Lot, Partner};
 pub use met::{nobody, partner};
-pub use places::{has_track, lot_of, place_of, told, track_of};
+pub use places::{lot_of, place_of, told, track_of};

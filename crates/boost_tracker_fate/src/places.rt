@@ -1,40 +1,23 @@
 // What the lists of the pairs say of one box, and what is told of it.
-ghost use Rattle.std.specs.Prelude.{◌≡◌, ◌-◌, get_or};
+ghost use Rattle.std.specs.Prelude.{◌≡◌, get_or};
 ghost use Rattle.boost_tracker_fate.specs.Fate.{place_in};
-ghost use Rattle.boost_tracker_fate.specs.Private.{lot_by, has_track, track_of, place_of, fate_by, told_by};
+ghost use Rattle.boost_tracker_fate.specs.Private.{lot_by, track_of, place_of, fate_by, told_by};
 
 use crate::kinds::{Explanation, Fate, Lot, Partner};
 
 // The first place of k in a list, or its length.
+// Kept: the length for none, as `place_in` of the definition has it.
 fn place_in(list: &[usize], k: usize) -> usize
     ensures { result ≡ place_in k list.now }
 {
-    let mut i = 0;
-    while i < list.len() {
-        let x = list[i];
-        if k == x {
-            return i;
-        }
-        i += 1;
-    }
-    i
+    list.iter().position(|&x| k == x).unwrap_or(list.len())
 }
 
 // Number i of a list, or 0 where there is none.
 fn number_at(list: &[usize], i: usize) -> usize
     ensures { result ≡ get_or list.now i 0 }
 {
-    if i < list.len() {
-        return list[i];
-    }
-    0
-}
-
-// a - b, or 0 where b is larger.
-fn less(a: usize, b: usize) -> usize
-    ensures { result ≡ a - b }
-{
-    if a < b { 0 } else { a - b }
+    list.get(i).copied().unwrap_or(0)
 }
 
 // Of the retained box d, or of a box that is not retained. The rejected pairs are the last of both unmatched lists.
@@ -57,46 +40,32 @@ pub fn lot_of(
         return Lot::Paired(number_at(pair_tracks, pair));
     }
     let place = place_in(unmatched, d);
-    let alone = less(unmatched.len(), rejected);
+    let alone = unmatched.len().saturating_sub(rejected);
     if place < alone {
         return Lot::Alone(place);
     }
-    let at = less(left.len(), rejected) + (place - alone);
+    let at = left.len().saturating_sub(rejected) + (place - alone);
     Lot::Refused(number_at(left, at), place)
 }
 
-pub fn has_track(lot: Lot) -> bool
-    ensures { result ≡ has_track lot }
-{
-    match lot {
-        Lot::Under => false,
-        Lot::Paired(_) => true,
-        Lot::Refused(_, _) => true,
-        Lot::Alone(_) => false,
-    }
-}
-
-// The track of its pair, or 0 where it has none.
-pub fn track_of(lot: Lot) -> usize
+// The track of its pair, if it has one.
+pub fn track_of(lot: Lot) -> Option<usize>
     ensures { result ≡ track_of lot }
 {
     match lot {
-        Lot::Under => 0,
-        Lot::Paired(t) => t,
-        Lot::Refused(t, _) => t,
-        Lot::Alone(_) => 0,
+        Lot::Paired(t) | Lot::Refused(t, _) => Some(t),
+        Lot::Under | Lot::Alone(_) => None,
     }
 }
 
 // Its place in the unmatched list, or 0 where it is not in it.
+// Kept: 0 for none, as `place_of` of the definition has it.
 pub fn place_of(lot: Lot) -> usize
     ensures { result ≡ place_of lot }
 {
     match lot {
-        Lot::Under => 0,
-        Lot::Paired(_) => 0,
-        Lot::Refused(_, place) => place,
-        Lot::Alone(place) => place,
+        Lot::Refused(_, place) | Lot::Alone(place) => place,
+        Lot::Under | Lot::Paired(_) => 0,
     }
 }
 

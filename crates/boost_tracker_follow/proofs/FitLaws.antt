@@ -1,14 +1,16 @@
 -- What the tests of `follow` tell: that counts, places and ids fit, and that every index is of a box. Assumes nothing.
-use mathlib.Core.Path.{◌≡◌, refl, sym}
+use mathlib.Core.Path.{◌≡◌, refl, sym, ◌∙◌}
 use mathlib.Core.Bool.{Bool, true, false, cond, ◌&&◌}
-use mathlib.Core.List.{List}
-use Prim.Native.Nat.{ℕ, ◌+◌, ◌-◌, ◌/◌, ◌≤◌, ◌<◌, ◌^◌}
-use native.Mathlib.Nat.{le_of_eq}
+use mathlib.Core.List.{List, [], ◌∷◌}
+use Prim.Native.Nat.{ℕ, zero, suc, ◌+◌, ◌-◌, ◌/◌, ◌≤◌, ◌<◌, ◌^◌}
+use native.Mathlib.Nat.{le_of_eq, not-suc-le-zero}
+use Rattle.std.proofs.Common.{le_of_suc-le-suc}
+use Rattle.std.specs.List.{list_all}
 use native.Mathlib.Omega.{arith}
 use lib.Dec.{leb, ltb}
 use lib.ListN.{length, get_or}
 use borrow.Author.Tests.{ltb-true, ltb-false, leb-true, leb-false, lt-ltb, le-ltb, le-leb, lt-leb}
-use Rattle.laws.specs.Tests.{and_left, and_right}
+use Rattle.laws.specs.Tests.{and_left, and_right, true_not_false}
 use Rattle.laws.specs.Scan.{lowest, lowest_never}
 use Rattle.laws.specs.Every.{lowest-none}
 use Rattle.assoc_assignment.specs.declared.assignment.AssignmentCounts.{AssignmentCounts}
@@ -91,3 +93,31 @@ listed-inside indices corners w =
     let none : (j : ℕ) → j < length indices → p j ≡ false = λ j h. lt-leb (corners / 4) (get_or indices j 0) (let b = w j h in omega (arith, b)) in
     let all : lowest p (length indices) ≡ length indices = lowest_never p (length indices) none in
     le-leb (length indices) (lowest p (length indices)) (le_of_eq (sym all))
+
+-- as std's search tells it
+module _ (n : ℕ) where
+  each-below : (xs : List ℕ) → list_all (λ i. ltb i n) xs ≡ true → (k : ℕ) → k < length xs → get_or xs k 0 < n
+  each-below [] e k h = absurd (not-suc-le-zero h)
+  each-below (x ∷ xs) e zero h = ltb-true x n (and_left (ltb x n) (list_all (λ i. ltb i n) xs) e)
+  each-below (x ∷ xs) e (suc k) h = each-below xs (and_right (ltb x n) (list_all (λ i. ltb i n) xs) e) k (le_of_suc-le-suc h)
+
+  below-each : (xs : List ℕ) → ((k : ℕ) → k < length xs → get_or xs k 0 < n) → list_all (λ i. ltb i n) xs ≡ true
+  below-each [] f = refl
+  below-each (x ∷ xs) f = rw (lt-ltb x n (f 0 (omega arith)), below-each xs (λ k h. f (suc k) (omega (arith, h))))
+
+pub all-inside : (indices : List ℕ) (n : ℕ) → list_all (λ i. ltb i n) indices ≡ inside indices n
+unfolding inside
+all-inside indices n = by_cases (list_all (λ i. ltb i n) indices) (leb (length indices) (lowest p (length indices))) refl refl
+  where
+    p : ℕ → Bool
+    p = λ k. leb n (get_or indices k 0)
+
+    by_cases : (a b : Bool) → list_all (λ i. ltb i n) indices ≡ a → leb (length indices) (lowest p (length indices)) ≡ b → a ≡ b
+    by_cases true true e f = refl
+    by_cases false false e f = refl
+    by_cases true false e f =
+        let all : lowest p (length indices) ≡ length indices = lowest_never p (length indices) (λ k h. lt-leb n (get_or indices k 0) (each-below n indices e k h)) in
+        absurd (true_not_false (sym (le-leb (length indices) (lowest p (length indices)) (le_of_eq (sym all))) ∙ f))
+    by_cases false true e f =
+        let none : (k : ℕ) → k < length indices → p k ≡ false = lowest-none p (length indices) (leb-true (length indices) (lowest p (length indices)) f) in
+        absurd (true_not_false (sym (below-each n indices (λ k h. leb-false n (get_or indices k 0) (none k h))) ∙ e))

@@ -1,4 +1,5 @@
 -- Tracks corrected by their boxes, and tracks started for the others with their labels: what the loops know, and what the tests before them tell. Assumes nothing.
+use Rattle.std.proofs.Common.{Result, Ok, Err}
 use mathlib.Core.Path.{◌≡◌, refl, sym, ap, ◌∙◌}
 use mathlib.Core.Bool.{Bool, true, false, ◌&&◌}
 use mathlib.Core.List.{List, [], ◌∷◌, ◌++◌, append_assoc, append-nil}
@@ -20,10 +21,9 @@ use Rattle.strack.specs.Strack.{new}
 use Rattle.boost_tracker_mh_dist.specs.MhDist.{det}
 use Rattle.boost_tracker_table.specs.Table.{Track, capacity, places_in, tracks, corrected, pushed, Laying}
 use Rattle.boost_tracker_table.proofs.Laws.{low-room, tracks-many, lay_here, lay_lengths, lay_next, pushed_room, laid_table}
+use Rattle.refusals.specs.declared.refusal.Refusal.{Refusal}
 use Rattle.refusals.specs.declared.refusal.Refusal.TheVariants.{OtherSize, TooShort}
 use Rattle.assoc_assignment.specs.declared.assignment.AssignmentCounts.{AssignmentCounts}
-use Rattle.assoc_assignment.specs.declared.assignment.AssignmentAnswer.{AssignmentAnswer}
-use Rattle.assoc_assignment.specs.declared.assignment.AssignmentAnswer.TheVariants.{Assigned, Refused}
 use Rattle.boost_tracker_table.specs.Lent.{Table, table_with, laid_over, call_with}
 use Rattle.boost_tracker_follow.specs.Corrections.{inside, fits, Listed, tracks_after, labels_after, followed_listed, followed}
 use Rattle.boost_tracker_follow.proofs.FitLaws.{FollowRoom, fits-room, room_fits, listed-inside}
@@ -130,7 +130,7 @@ behind-held l xs held h = rw (length-append (take held l) xs, length-take-le hel
 module _ (held last : ℕ) (corners : List Float) (box_labels : List ℕ) (counts : AssignmentCounts) (pair_boxes pair_tracks unmatched : List ℕ) (f : List Float) (c l : List ℕ) {a b : Bool}
     (ea : a ≡ inside pair_boxes (length corners / 4)) (eb : b ≡ inside unmatched (length corners / 4)) where
   -- some index is of no box
-  pub not_listed : (a && b) ≡ false → call_with (Refused OtherSize) (table_with f c l) ≡ followed_listed held last corners box_labels counts pair_boxes pair_tracks unmatched (table_with f c l)
+  pub not_listed : (a && b) ≡ false → call_with (Err OtherSize) (table_with f c l) ≡ followed_listed held last corners box_labels counts pair_boxes pair_tracks unmatched (table_with f c l)
   unfolding followed_listed
   not_listed h = rw (← ea, ← eb, h)
 
@@ -140,12 +140,12 @@ module _ (held last : ℕ) (corners : List Float) (box_labels : List ℕ) (count
   pub listed : {f₁ f₂ : List Float} {c₁ c₂ l₂ : List ℕ} → (a && b) ≡ true → held ≤ places_in (length f) (length c) (length l)
       → Laying f c f₁ c₁ (corrected_by corners pair_boxes pair_tracks (tracks f c held)) → Laying f₁ c₁ f₂ c₂ (tracks f₁ c₁ held ++ started_by last corners unmatched)
       → l₂ ≡ splice l held (started_labels box_labels unmatched)
-      → call_with (Assigned counts) (table_with f₂ c₂ l₂) ≡ followed_listed held last corners box_labels counts pair_boxes pair_tracks unmatched (table_with f c l)
+      → call_with (Ok counts) (table_with f₂ c₂ l₂) ≡ followed_listed held last corners box_labels counts pair_boxes pair_tracks unmatched (table_with f c l)
   unfolding followed_listed
   listed h room p q e =
       let known = both_inside h in
       let named = e ∙ behind-held l (started_labels box_labels unmatched) held (omega (arith, room)) in
-      rw (known.0, known.1) (ap (λ (t : Table). call_with (Assigned counts) t) (laid_table l (take held l ++ started_labels box_labels unmatched) (both_laid corners pair_boxes pair_tracks unmatched last held (omega (arith, room)) p q) named))
+      rw (known.0, known.1) (ap (λ (t : Table). call_with (Ok counts) t) (laid_table l (take held l ++ started_labels box_labels unmatched) (both_laid corners pair_boxes pair_tracks unmatched last held (omega (arith, room)) p q) named))
 
 -- ---- a call
 
@@ -160,14 +160,14 @@ module _ (held last : ℕ) (corners : List Float) (box_labels : List ℕ) (count
     known : r ≡ fitting
     known = rw e at h
 
-    pub not_fitting : r ≡ false → call_with (Refused TooShort) (table_with f c l) ≡ followed held last corners box_labels counts pair_boxes pair_tracks unmatched (table_with f c l)
+    pub not_fitting : r ≡ false → call_with (Err TooShort) (table_with f c l) ≡ followed held last corners box_labels counts pair_boxes pair_tracks unmatched (table_with f c l)
     unfolding followed
     not_fitting t = rw (sym known ∙ t)
 
     pub room_of : r ≡ true → FollowRoom held places last counts (length pair_boxes) (length pair_tracks) (length unmatched)
     room_of t = fits-room (sym known ∙ t)
 
-    pub follows : {f' : List Float} {c' l' : List ℕ} {q : AssignmentAnswer} → r ≡ true
+    pub follows : {f' : List Float} {c' l' : List ℕ} {q : Result AssignmentCounts Refusal} → r ≡ true
         → call_with q (table_with f' c' l') ≡ followed_listed held last corners box_labels counts (take counts.pairs pair_boxes) (take counts.pairs pair_tracks) (take counts.detections unmatched) (table_with f c l)
         → call_with q (table_with f' c' l') ≡ followed held last corners box_labels counts pair_boxes pair_tracks unmatched (table_with f c l)
     unfolding followed
@@ -177,7 +177,7 @@ module _ (held last : ℕ) (corners : List Float) (box_labels : List ℕ) (count
   pub followed-is : FollowRoom held places last counts (length pair_boxes) (length pair_tracks) (length unmatched)
       → Listed (take counts.pairs pair_boxes) (length corners) → Listed (take counts.detections unmatched) (length corners)
       → followed held last corners box_labels counts pair_boxes pair_tracks unmatched (table_with f c l)
-      ≡ call_with (Assigned counts) (laid_over (tracks_after held last corners (take counts.pairs pair_boxes) (take counts.pairs pair_tracks) (take counts.detections unmatched) (table_with f c l))
+      ≡ call_with (Ok counts) (laid_over (tracks_after held last corners (take counts.pairs pair_boxes) (take counts.pairs pair_tracks) (take counts.detections unmatched) (table_with f c l))
       (labels_after held box_labels (take counts.detections unmatched) (table_with f c l)) (table_with f c l))
   unfolding followed followed_listed
   followed-is room a b = rw (room_fits room, listed-inside (take counts.pairs pair_boxes) (length corners) a, listed-inside (take counts.detections unmatched) (length corners) b)

@@ -1,8 +1,6 @@
 // Steps 6 and 7 of a frame, what follows of its pairs: the tracks corrected by their boxes, and those started for the boxes without one, with their labels.
-ghost use Rattle.std.specs.Prelude.{◌≡◌, ◌++◌, ◌+◌, ◌*◌, ◌/◌, ◌≤◌, ◌<◌, ◌^◌, leb, length, get_or};
-ghost use Rattle.laws.specs.Scan.{lowest};
+ghost use Rattle.std.specs.Prelude.{◌≡◌, ◌++◌, ◌+◌, ◌*◌, ◌/◌, ◌≤◌, ◌<◌, ◌^◌, length};
 ghost use Rattle.laws.specs.Splice.{splice};
-ghost use Rattle.boost_tracker_mh_dist.specs.MhDist.{det};
 ghost use Rattle.boost_tracker_table.specs.Table as Table;
 ghost use Rattle.boost_tracker_table.specs.Table.{tracks, Laying};
 ghost use Rattle.boost_tracker_table.specs.Lent.{table_with, call_with};
@@ -10,23 +8,9 @@ ghost use Rattle.boost_tracker_definition.specs.Plain.{corrected_by, started_by,
 ghost use Rattle.boost_tracker_follow.specs.Corrections as Follow;
 ghost use Rattle.boost_tracker_follow.specs.Corrections.{Listed, inside};
 
-use assoc::{AssignmentAnswer, AssignmentCounts, Refusal};
-use strack::rect::Xyxy;
+use assoc::{AssignmentCounts, Refusal};
+use boost_tracker_mh_dist::det;
 use strack::strack::KalmanBoxTracker;
-
-// Box i of a list of corners.
-fn det(corners: &[f32], i: usize) -> Xyxy
-    requires { i * 4 + 4 ≤ length corners.now }
-    ensures { result ≡ det corners.now i }
-{
-    let at = i * 4;
-    Xyxy {
-        x1: corners[at],
-        y1: corners[at + 1],
-        x2: corners[at + 2],
-        y2: corners[at + 3],
-    }
-}
 
 // ---- step 6
 
@@ -42,8 +26,7 @@ fn correct_matched(
     requires within { Listed pair_boxes.now (length corners.now) }
     ensures { Laying floats.old counters.old floats.new counters.new (corrected_by corners.now pair_boxes.now pair_tracks.now (tracks floats.old counters.old held)) }
 {
-    let mut k = 0;
-    while k < pair_boxes.len() {
+    for k in 0..pair_boxes.len() {
         boost_tracker_table::correct(
             floats,
             counters,
@@ -51,11 +34,10 @@ fn correct_matched(
             pair_tracks[k],
             det(corners, pair_boxes[k]),
         );
-        k += 1;
     }
 }
 
-// ---- step 7: every retained score is at least det_thresh, so the Rust's test is left out
+// ---- step 7: every retained score is at least det_thresh, so that it is not tested again
 
 fn start_unmatched(
     floats: &mut [f32],
@@ -70,12 +52,10 @@ fn start_unmatched(
     ensures { Laying floats.old counters.old floats.new counters.new (tracks floats.old counters.old held ++ started_by last corners.now unmatched.now) }
 {
     let mut id = last;
-    let mut k = 0;
-    while k < unmatched.len() {
+    for (k, box_index) in unmatched.iter().enumerate() {
         id += 1;
-        let t = KalmanBoxTracker::new(det(corners, unmatched[k]), id);
+        let t = KalmanBoxTracker::new(det(corners, *box_index), id);
         boost_tracker_table::append(floats, counters, held + k, t);
-        k += 1;
     }
 }
 
@@ -84,10 +64,8 @@ fn put_labels(box_labels: &[u8], list: &[usize], out: &mut [u8])
     requires { length out.old ≡ length list.now }
     ensures { out.new ≡ started_labels box_labels.now list.now }
 {
-    let mut k = 0;
-    while k < list.len() {
-        out[k] = labels::label_at(box_labels, list[k]);
-        k += 1;
+    for (k, box_index) in list.iter().enumerate() {
+        out[k] = labels::label_at(box_labels, *box_index);
     }
 }
 
@@ -102,26 +80,10 @@ fn start_labels(labels: &mut [u8], held: usize, box_labels: &[u8], unmatched: &[
 
 // ---- both
 
-// The first index that is not below n, or the number of indices.
-fn first_outside(indices: &[usize], n: usize) -> usize
-    ensures { result ≡ lowest (λ k. leb n (get_or indices.now k 0)) (length indices.now) }
-{
-    let mut k = 0;
-    while k < indices.len() {
-        let i = indices[k];
-        if i >= n {
-            return k;
-        }
-        k += 1;
-    }
-    k
-}
-
 fn all_inside(indices: &[usize], n: usize) -> bool
     ensures { result ≡ inside indices.now n }
 {
-    let outside = first_outside(indices, n);
-    indices.len() <= outside
+    indices.iter().all(|&i| i < n)
 }
 
 // Whether the counts are within their lists, the tracks within the table and the ids within 64 bits.
@@ -157,7 +119,7 @@ pub fn follow(
     pair_boxes: &[usize],
     pair_tracks: &[usize],
     unmatched: &[usize],
-) -> AssignmentAnswer
+) -> Result<AssignmentCounts, Refusal>
     ensures { call_with result (table_with floats.new counters.new labels.new)
         ≡ Follow.followed held last corners.now box_labels.now counts pair_boxes.now pair_tracks.now unmatched.now
         (table_with floats.old counters.old labels.old) }
@@ -172,14 +134,14 @@ pub fn follow(
         pair_tracks.len(),
         unmatched.len(),
     ) {
-        return AssignmentAnswer::Refused(Refusal::TooShort);
+        return Err(Refusal::TooShort);
     }
     let pairs = counts.pairs;
     let started = counts.detections;
     let boxes = corners.len() / 4;
     let known = all_inside(&pair_boxes[..pairs], boxes) & all_inside(&unmatched[..started], boxes);
     if !known {
-        return AssignmentAnswer::Refused(Refusal::OtherSize);
+        return Err(Refusal::OtherSize);
     }
     correct_matched(
         floats,
@@ -191,5 +153,5 @@ pub fn follow(
     );
     start_unmatched(floats, counters, held, last, corners, &unmatched[..started]);
     start_labels(labels, held, box_labels, &unmatched[..started]);
-    AssignmentAnswer::Assigned(counts)
+    Ok(counts)
 }

@@ -7,8 +7,12 @@ use native.Mathlib.Nat.{le_trans}
 use native.Mathlib.Omega.{arith}
 use lib.ListN.{length, length-map, get_or, get_or-map}
 use lib.Ieee.{Float}
-use borrow.Author.Tests.{not-false}
+use Rattle.std.specs.Bool.{⊤}
+use Rattle.std.proofs.Common.{Result, Ok, Err}
+use Rattle.std.specs.Prelude.{is_err, ◌==◌}
+use borrow.Author.Tests.{not-false, eqb-true}
 use Rattle.laws.specs.Choose.{cond_no}
+use Rattle.laws.specs.Tests.{false_not_true}
 use Rattle.laws.specs.Every.{every}
 use Rattle.labels.specs.Label.{unlabelled}
 use Rattle.boost_tracker_table.specs.Table.{Track, ids_of, blank, capacity, places_in, placed, tracks, unlisted, KeptWhere, Emptied, labels_kept, labels_emptied}
@@ -20,8 +24,6 @@ use Rattle.boost_tracker_verdict.specs.Sound.{sound_table}
 use Rattle.boost_tracker_verdict.proofs.SoundLaws.{sound-placed}
 use Rattle.boost_tracker_forget.specs.declared.refusal.ForgetRefusal.{ForgetRefusal}
 use Rattle.boost_tracker_forget.specs.declared.refusal.ForgetRefusal.TheVariants.{TableNotSound, TrackNotLabelled, IdTwice, IdNotHeld}
-use Rattle.boost_tracker_forget.specs.declared.refusal.ForgetVerdict.{ForgetVerdict}
-use Rattle.boost_tracker_forget.specs.declared.refusal.ForgetVerdict.TheVariants.{Accepted, Refused}
 use Rattle.boost_tracker_forget.specs.Forget.{twice, all_held, first_of, verdict, without, ends, forgotten}
 
 -- ---- ids that are held
@@ -47,7 +49,7 @@ module _ (q : ℕ → Bool) where
 
 -- ---- what is known of an accepted drop
 
-refused : (why : ForgetRefusal) → Refused why ≡ Accepted → ⊥
+refused : (why : ForgetRefusal) → ◌≡◌ {A = Result ⊤ ForgetRefusal} (Err why) (Ok tt) → ⊥
 refused why q = let z : ◌≡◌ {A = ℕ} 0 1 = cc in omega arith
 
 pub record Droppable (s : State) (t : Table) (ids : List ℕ) : Type 0 where
@@ -56,16 +58,16 @@ pub record Droppable (s : State) (t : Table) (ids : List ℕ) : Type 0 where
   pub none-twice : twice ids ≡ false
   pub all_held : all_held (tracks_in t s.count) ids ≡ true
 
-pub droppable : (s : State) (t : Table) (ids : List ℕ) → verdict s t ids ≡ Accepted → Droppable s t ids
+pub droppable : (s : State) (t : Table) (ids : List ℕ) → verdict s t ids ≡ Ok tt → Droppable s t ids
 unfolding verdict first_of
 droppable s t ids e =
-    let s₁ = cond_no (not (sound_table s t)) (Refused TableNotSound) _ Accepted (refused TableNotSound) e in
-    let s₂ = cond_no (unlabelled t.labels s.count) (Refused TrackNotLabelled) _ Accepted (refused TrackNotLabelled) s₁.1 in
-    let s₃ = cond_no (twice ids) (Refused IdTwice) _ Accepted (refused IdTwice) s₂.1 in
-    let s₄ = cond_no (not (all_held (tracks_in t s.count) ids)) (Refused IdNotHeld) Accepted Accepted (refused IdNotHeld) s₃.1 in
+    let s₁ = cond_no (not (sound_table s t)) (Err TableNotSound) _ (Ok tt) (refused TableNotSound) e in
+    let s₂ = cond_no (unlabelled t.labels s.count) (Err TrackNotLabelled) _ (Ok tt) (refused TrackNotLabelled) s₁.1 in
+    let s₃ = cond_no (twice ids) (Err IdTwice) _ (Ok tt) (refused IdTwice) s₂.1 in
+    let s₄ = cond_no (not (all_held (tracks_in t s.count) ids)) (Err IdNotHeld) (Ok tt) (Ok tt) (refused IdNotHeld) s₃.1 in
     record { is-sound = not-false _ s₁.0; is-labelled = s₂.0; none-twice = s₃.0; all_held = not-false _ s₄.0 }
 
-pub accepts : {s : State} {t : Table} {ids : List ℕ} → Droppable s t ids → verdict s t ids ≡ Accepted
+pub accepts : {s : State} {t : Table} {ids : List ℕ} → Droppable s t ids → verdict s t ids ≡ Ok tt
 unfolding verdict first_of
 accepts w = rw (w.is-sound, w.is-labelled, w.none-twice, w.all_held)
 
@@ -88,26 +90,37 @@ drop-is s f c n ids {f₁} {f₂} {c₁} {c₂} {n₁} {n₂} {places} {count} r
 
 -- ---- a call
 
-module _ (s : State) (t : Table) (ids : List ℕ) {v : ForgetVerdict} (e : v ≡ verdict s t ids) where
-  pub forgets_not : {why : ForgetRefusal} → v ≡ Refused why → call_with (record { verdict = v; state = s }) t ≡ forgotten s t ids
+module _ (s : State) (t : Table) (ids : List ℕ) {v : Result ⊤ ForgetRefusal} (e : v ≡ verdict s t ids) where
+  pub forgets_not : is_err v ≡ true → call_with (record { verdict = v; state = s }) t ≡ forgotten s t ids
   unfolding forgotten
-  forgets_not q = rw (← e, q)
-
-  pub accepted-placed : v ≡ Accepted → s.count ≤ places_of t
-  accepted-placed q = sound-placed (places_of t) s (tracks_in t s.count) (droppable s t ids (sym e ∙ q)).is-sound
-
-  empty_list : (xs : List ℕ) → length xs ≡ 0 → xs ≡ []
-  empty_list [] h = refl
-  empty_list (x ∷ xs) h = absurd (omega arith)
-
-  pub forgets-none : v ≡ Accepted → length ids ≡ 0 → call_with (record { verdict = v; state = s }) t ≡ forgotten s t ids
-  unfolding forgotten
-  forgets-none q h = let none = empty_list ids h in rw (← e, q, none)
-
-  pub forgets-some : {s' : State} {t' : Table} → v ≡ Accepted → (length ids ≡ 0 → ⊥) → call_with s' t' ≡ without s t ids → call_with (record { verdict = v; state = s' }) t' ≡ forgotten s t ids
-  unfolding forgotten
-  forgets-some {s'} {t'} q n w = rw (← e, q) (by_cases ids n w)
+  forgets_not h = rw (← e) (by_cases v h)
     where
-      by_cases : (xs : List ℕ) → (length xs ≡ 0 → ⊥) → call_with s' t' ≡ without s t xs → call_with (record { verdict = Accepted; state = s' }) t' ≡ ends Accepted s t xs
-      by_cases [] n w = absurd (n refl)
-      by_cases (x ∷ xs) n w = ap (λ (k : Call State Table). call_with (record { verdict = Accepted; state = k.answer }) k.lent) w
+      by_cases : (v : Result ⊤ ForgetRefusal) → is_err v ≡ true → call_with (record { verdict = v; state = s }) t ≡ ends v s t ids
+      by_cases (Ok _) h = absurd (false_not_true h)
+      by_cases (Err why) h = refl
+
+  accepted : is_err v ≡ false → v ≡ Ok tt
+  accepted = by_cases v
+    where
+      by_cases : (v : Result ⊤ ForgetRefusal) → is_err v ≡ false → v ≡ Ok tt
+      by_cases (Ok tt) h = refl
+      by_cases (Err why) h = absurd (false_not_true (sym h))
+
+  pub accepted-placed : is_err v ≡ false → s.count ≤ places_of t
+  accepted-placed h = sound-placed (places_of t) s (tracks_in t s.count) (droppable s t ids (sym e ∙ accepted h)).is-sound
+
+  pub forgets-none : is_err v ≡ false → (length ids == 0) ≡ true → call_with (record { verdict = v; state = s }) t ≡ forgotten s t ids
+  unfolding forgotten
+  forgets-none h n = rw (← e, accepted h) (by_cases ids n)
+    where
+      by_cases : (xs : List ℕ) → (length xs == 0) ≡ true → call_with (record { verdict = Ok tt; state = s }) t ≡ ends (Ok tt) s t xs
+      by_cases [] n = refl
+      by_cases (x ∷ xs) n = let none = eqb-true (length (x ∷ xs)) 0 n in absurd (omega (arith, none))
+
+  pub forgets-some : {s' : State} {t' : Table} → is_err v ≡ false → (length ids == 0) ≡ false → call_with s' t' ≡ without s t ids → call_with (record { verdict = v; state = s' }) t' ≡ forgotten s t ids
+  unfolding forgotten
+  forgets-some {s'} {t'} h n w = rw (← e, accepted h) (by_cases ids n w)
+    where
+      by_cases : (xs : List ℕ) → (length xs == 0) ≡ false → call_with s' t' ≡ without s t xs → call_with (record { verdict = Ok tt; state = s' }) t' ≡ ends (Ok tt) s t xs
+      by_cases [] n w = absurd (false_not_true (sym n))
+      by_cases (x ∷ xs) n w = ap (λ (k : Call State Table). call_with (record { verdict = Ok tt; state = k.answer }) k.lent) w

@@ -8,7 +8,7 @@ use native.Mathlib.Numerals.{add-one}
 use native.Mathlib.Omega.{arith}
 use lib.Dec.{eqb}
 use lib.ListN.{length, get_or, take, drop, take-append-drop}
-use lib.Seq.{take_all, take-suc, drop-cons}
+use lib.Seq.{take-suc, drop-cons}
 use borrow.Author.Tests.{eqb-true, eq-eqb}
 use Rattle.laws.specs.Tests.{false_not_true, and_left, and_right, or_none}
 use Rattle.laws.specs.Count.{bit}
@@ -91,10 +91,6 @@ module _ (ids : List ℕ) where
           let parts : occurs x ids ≡ occurs x (take i ids) + occurs x (drop i ids) = ap (occurs x) (sym (take-append-drop i ids)) ∙ occurs-append x (take i ids) (drop i ids) in
           let here : 1 ≤ occurs x (drop i ids) = rw (drop-cons ids i 0 h) (first-stands x (drop (suc i) ids)) in
           absurd (omega (arith, few, before, parts, here))
-
-  -- none is
-  pub never_twice : (i : ℕ) → length ids ≤ i → twice (take i ids) ≡ false → false ≡ twice ids
-  never_twice i h n = sym (rw (take_all i ids h) at n)
 
 -- ---- the pigeonhole
 

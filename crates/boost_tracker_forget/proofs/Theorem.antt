@@ -6,6 +6,8 @@ use Prim.Native.Nat.{ℕ, ◌+◌, ◌-◌, ◌*◌, ◌≤◌, ◌<◌}
 use native.Mathlib.Omega.{arith}
 use lib.ListN.{length, length-append, length-map, get_or, replicate, take, drop}
 use lib.Seq.{get_or-take, length-take-le, drop_at}
+use Rattle.std.specs.Bool.{⊤}
+use Rattle.std.proofs.Common.{Result, Ok, Err}
 use Rattle.laws.specs.Tests.{and_left, or_none}
 use Rattle.laws.specs.Tab.{map-tab, tab_of, indices}
 use Rattle.laws.specs.Sieve.{sieve-all}
@@ -21,8 +23,7 @@ use Rattle.boost_tracker_table.specs.Lent.{Table, places_of, tracks_in, Call, ca
 use Rattle.boost_tracker_table.proofs.LabelLaws.{labels-many}
 use Rattle.boost_tracker_verdict.specs.declared.sound.State.{State}
 use Rattle.boost_tracker_verdict.proofs.SoundLaws.{sound-placed, sound-rising, rising-once}
-use Rattle.boost_tracker_forget.specs.declared.refusal.ForgetVerdict.{ForgetVerdict}
-use Rattle.boost_tracker_forget.specs.declared.refusal.ForgetVerdict.TheVariants.{Accepted, Refused}
+use Rattle.boost_tracker_forget.specs.declared.refusal.ForgetRefusal.{ForgetRefusal}
 use Rattle.boost_tracker_forget.specs.declared.drops.Forgotten.{Forgotten}
 use Rattle.boost_tracker_forget.specs.Forget.{twice, first_of, conditions, verdict, Accepts, remaining, without, dropped, ends, forgotten}
 use Rattle.boost_tracker_forget.specs.Laws.{Dropped, WholeOrNotAtAll, whole, not_at-all, EveryCall, NoneChangesNothing, ZerosBeyond, NoLonger, answers, singly, InAnyOrder}
@@ -122,12 +123,12 @@ pub whole_or_not_at-all : EveryCall
 unfolding forgotten
 whole_or_not_at-all s t ids r t' leaves = by_cases (verdict s t ids) refl leaves
   where
-    by_cases : (v : ForgetVerdict) → verdict s t ids ≡ v → call_with r t' ≡ ends v s t ids → WholeOrNotAtAll s t ids r t'
-    by_cases Accepted e leaves =
+    by_cases : (v : Result ⊤ ForgetRefusal) → verdict s t ids ≡ v → call_with r t' ≡ ends v s t ids → WholeOrNotAtAll s t ids r t'
+    by_cases (Ok tt) e leaves =
         let answers = ap (λ (k : Call Forgotten Table). k.answer) leaves in
         let lent = ap (λ (k : Call Forgotten Table). k.lent) leaves in
         rw (answers, lent) (whole (first-is-said s t ids ∙ e) refl (every_drop s t ids e))
-    by_cases (Refused why) e leaves =
+    by_cases (Err why) e leaves =
         let answers = ap (λ (k : Call Forgotten Table). k.answer) leaves in
         let lent = ap (λ (k : Call Forgotten Table). k.lent) leaves in
         rw (answers, lent) (not_at-all why (first-is-said s t ids ∙ e) refl refl refl)
@@ -136,9 +137,9 @@ pub none_changes_nothing : NoneChangesNothing
 unfolding forgotten
 none_changes_nothing s t r t' leaves = by_cases (verdict s t []) leaves
   where
-    by_cases : (v : ForgetVerdict) → call_with r t' ≡ ends v s t [] → (r.state ≡ s) × (t' ≡ t)
-    by_cases Accepted leaves = (ap (λ (k : Call Forgotten Table). k.answer.state) leaves, ap (λ (k : Call Forgotten Table). k.lent) leaves)
-    by_cases (Refused why) leaves = (ap (λ (k : Call Forgotten Table). k.answer.state) leaves, ap (λ (k : Call Forgotten Table). k.lent) leaves)
+    by_cases : (v : Result ⊤ ForgetRefusal) → call_with r t' ≡ ends v s t [] → (r.state ≡ s) × (t' ≡ t)
+    by_cases (Ok tt) leaves = (ap (λ (k : Call Forgotten Table). k.answer.state) leaves, ap (λ (k : Call Forgotten Table). k.lent) leaves)
+    by_cases (Err why) leaves = (ap (λ (k : Call Forgotten Table). k.answer.state) leaves, ap (λ (k : Call Forgotten Table). k.lent) leaves)
 
 -- ---- behind the remaining tracks
 
@@ -196,7 +197,7 @@ module _ (s : State) (t : Table) (x : ℕ) (xs : List ℕ) (accepted : Accepts s
   abbrev t' : Table
   t' = (without s t (x ∷ [])).lent
 
-  pub first-is : forgotten s t (x ∷ []) ≡ call_with (record { verdict = Accepted; state = s' }) t'
+  pub first-is : forgotten s t (x ∷ []) ≡ call_with (record { verdict = Ok tt; state = s' }) t'
   unfolding forgotten
   first-is = rw first-accepted
 
@@ -215,12 +216,12 @@ module _ (s : State) (t : Table) (x : ℕ) (xs : List ℕ) (accepted : Accepts s
       stands-in b held_then (omega (arith, h, not_again, is_held, each)) in
       accepts (record { is-sound = left.sound; is-labelled = left.labelled; none-twice = (or_none (elem x xs) (twice xs) knows.none-twice).1; all_held = all_pass (λ id. elem id held_then) xs still })
 
-all-accepted : (xs : List ℕ) (s : State) (t : Table) → Accepts s t xs → answers s t xs ≡ replicate (length xs) Accepted
+all-accepted : (xs : List ℕ) (s : State) (t : Table) → Accepts s t xs → answers s t xs ≡ replicate (length xs) (Ok tt)
 unfolding answers
 all-accepted [] s t accepted = refl
 all-accepted (x ∷ xs) s t accepted =
     let rest = all-accepted xs (without s t (x ∷ [])).answer (without s t (x ∷ [])).lent (rest-accepted s t x xs accepted) in
-    rw (first-is s t x xs accepted) (ap (λ (l : List ForgetVerdict). Accepted ∷ l) rest)
+    rw (first-is s t x xs accepted) (ap (λ (l : List (Result ⊤ ForgetRefusal)). Ok tt ∷ l) rest)
 
 singly-is : (xs : List ℕ) (s : State) (t : Table) (x : ℕ) → Accepts s t (x ∷ xs) → singly s t (x ∷ xs) ≡ without s t (x ∷ xs)
 unfolding singly

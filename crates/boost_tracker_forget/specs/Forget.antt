@@ -1,6 +1,6 @@
--- Document 02, N11: "Dropping one id is wanted, and the same for a set of ids in one call. A set is dropped whole or not at all, an empty set changes nothing, otherwise places beyond the new count become zero,
--- the remaining tracks retain order and values, last id and frame count are unchanged .. Turned away: 11, then 10 of the frame; then 101 an id given twice; then 102 an id not held."
-use Rattle.std.specs.Prelude.{◌≡◌, Bool, false, cond, not, ◌||◌, ℕ, length}
+-- A track is dropped by its id, or a set of tracks in one call. A set is dropped whole or not at all, an empty set changes nothing, otherwise places beyond the new count become zero,
+-- the remaining tracks keep their order and values, last id and frame count are unchanged. Turned away: 11, then 10 of the frame; then 101 an id given twice; then 102 an id not held.
+use Rattle.std.specs.Prelude.{◌≡◌, Bool, false, cond, not, ◌||◌, ℕ, length, ⊤, Result, Ok, Err}
 use mathlib.Core.List.{List, [], ◌∷◌}
 use Rattle.laws.specs.Elem.{elem}
 use Rattle.laws.specs.Every.{every}
@@ -12,8 +12,6 @@ use Rattle.boost_tracker_verdict.specs.declared.sound.State.{State}
 use Rattle.boost_tracker_verdict.specs.Sound.{sound_table}
 use Rattle.boost_tracker_forget.specs.declared.refusal.ForgetRefusal.{ForgetRefusal}
 use Rattle.boost_tracker_forget.specs.declared.refusal.ForgetRefusal.TheVariants.{TableNotSound, TrackNotLabelled, IdTwice, IdNotHeld}
-use Rattle.boost_tracker_forget.specs.declared.refusal.ForgetVerdict.{ForgetVerdict}
-use Rattle.boost_tracker_forget.specs.declared.refusal.ForgetVerdict.TheVariants.{Accepted, Refused}
 use Rattle.boost_tracker_forget.specs.declared.drops.Forgotten.{Forgotten}
 
 -- ---- the numbers
@@ -25,9 +23,9 @@ number IdTwice = 101
 number IdNotHeld = 102
 
 -- 0 where it is accepted
-abbrev pub answer : ForgetVerdict → ℕ
-answer Accepted = 0
-answer (Refused why) = number why
+abbrev pub answer : Result ⊤ ForgetRefusal → ℕ
+answer (Ok _) = 0
+answer (Err why) = number why
 
 -- ---- when a drop is turned away
 
@@ -39,7 +37,7 @@ twice (id ∷ ids) = elem id ids || twice ids
 abbrev pub all_held : List Track → List ℕ → Bool
 all_held ts ids = every (λ id. elem id (ids_of ts)) ids
 
--- each reason by its own words, whatever the others say, in 02's order
+-- each reason by its own words, whatever the others say, in the order in which they are said
 abbrev pub conditions : State → Table → List ℕ → List (ForgetRefusal × Bool)
 conditions s t ids =
     (TableNotSound, not (sound_table s t))
@@ -49,15 +47,15 @@ conditions s t ids =
     ∷ []
 
 -- the first that applies
-unfoldable pub first_of : List (ForgetRefusal × Bool) → ForgetVerdict
-first_of [] = Accepted
-first_of (c ∷ cs) = cond c.1 (Refused c.0) (first_of cs)
+unfoldable pub first_of : List (ForgetRefusal × Bool) → Result ⊤ ForgetRefusal
+first_of [] = Ok tt
+first_of (c ∷ cs) = cond c.1 (Err c.0) (first_of cs)
 
-unfoldable pub verdict : State → Table → List ℕ → ForgetVerdict
+unfoldable pub verdict : State → Table → List ℕ → Result ⊤ ForgetRefusal
 verdict s t ids = first_of (conditions s t ids)
 
 abbrev pub Accepts : State → Table → List ℕ → Type 0
-Accepts s t ids = verdict s t ids ≡ Accepted
+Accepts s t ids = verdict s t ids ≡ Ok tt
 
 -- ---- what it leaves
 
@@ -81,9 +79,9 @@ dropped s t (id ∷ ids) = without s t (id ∷ ids)
 -- ---- a call
 
 -- a refused call changes nothing
-abbrev pub ends : ForgetVerdict → State → Table → List ℕ → Call Forgotten Table
-ends Accepted s t ids = let k : Call State Table = dropped s t ids in call_with (record { verdict = Accepted; state = k.answer }) k.lent
-ends (Refused why) s t ids = call_with (record { verdict = Refused why; state = s }) t
+abbrev pub ends : Result ⊤ ForgetRefusal → State → Table → List ℕ → Call Forgotten Table
+ends (Ok _) s t ids = let k : Call State Table = dropped s t ids in call_with (record { verdict = Ok tt; state = k.answer }) k.lent
+ends (Err why) s t ids = call_with (record { verdict = Err why; state = s }) t
 
 unfoldable pub forgotten : State → Table → List ℕ → Call Forgotten Table
 forgotten s t ids = ends (verdict s t ids) s t ids

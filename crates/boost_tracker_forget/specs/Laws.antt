@@ -1,5 +1,5 @@
--- What holds of drops, in document 02's words. proofs/Theorem.antt proves it.
-use Rattle.std.specs.Prelude.{◌≡◌, true, false, List, [], ◌∷◌, ◌++◌, ℕ, ◌+◌, ◌-◌, ◌*◌, ◌≤◌, length, drop, replicate}
+-- What holds of drops. proofs/Theorem.antt proves it.
+use Rattle.std.specs.Prelude.{◌≡◌, true, false, List, [], ◌∷◌, ◌++◌, ℕ, ◌+◌, ◌-◌, ◌*◌, ◌≤◌, length, drop, replicate, ⊤, Result, Ok, Err}
 use Rattle.laws.specs.Occurs.{occurs}
 use Rattle.floats.specs.Single.{plus_zero}
 use Rattle.labels.specs.Label.{unlabelled}
@@ -8,8 +8,6 @@ use Rattle.boost_tracker_table.specs.Lent.{Table, places_of, tracks_in, labels_i
 use Rattle.boost_tracker_verdict.specs.declared.sound.State.{State}
 use Rattle.boost_tracker_verdict.specs.Sound.{sound_table}
 use Rattle.boost_tracker_forget.specs.declared.refusal.ForgetRefusal.{ForgetRefusal}
-use Rattle.boost_tracker_forget.specs.declared.refusal.ForgetVerdict.{ForgetVerdict}
-use Rattle.boost_tracker_forget.specs.declared.refusal.ForgetVerdict.TheVariants.{Accepted, Refused}
 use Rattle.boost_tracker_forget.specs.declared.drops.Forgotten.{Forgotten}
 use Rattle.boost_tracker_forget.specs.Forget.{conditions, first_of, Accepts, remaining, forgotten}
 
@@ -34,8 +32,8 @@ pub record Dropped (s : State) (t : Table) (ids : List ℕ) (s' : State) (t' : T
 
 -- "A set is dropped whole or not at all": whole where no condition of `conditions` holds, and otherwise with the first that does
 pub data WholeOrNotAtAll (s : State) (t : Table) (ids : List ℕ) (r : Forgotten) (t' : Table) : Type 0 where
-  whole : first_of (conditions s t ids) ≡ Accepted → r.verdict ≡ Accepted → Dropped s t ids r.state t' → WholeOrNotAtAll s t ids r t'
-  not_at-all : (why : ForgetRefusal) → first_of (conditions s t ids) ≡ Refused why → r.verdict ≡ Refused why → r.state ≡ s → t' ≡ t → WholeOrNotAtAll s t ids r t'
+  whole : first_of (conditions s t ids) ≡ Ok tt → r.verdict ≡ Ok tt → Dropped s t ids r.state t' → WholeOrNotAtAll s t ids r t'
+  not_at-all : (why : ForgetRefusal) → first_of (conditions s t ids) ≡ Err why → r.verdict ≡ Err why → r.state ≡ s → t' ≡ t → WholeOrNotAtAll s t ids r t'
 
 -- `whole_or_not_at-all`
 abbrev pub EveryCall : Type 0
@@ -62,7 +60,7 @@ NoLonger = (s : State) (t : Table) (ids : List ℕ) → Accepts s t ids → leng
 -- ---- "an accepted drop of one id or more equals dropping its members singly in whatever order"
 
 -- calls of `forget` in a row, one for each id, every call on the state and the table that the one before left: what each answers, and what the last leaves
-unfoldable pub answers : State → Table → List ℕ → List ForgetVerdict
+unfoldable pub answers : State → Table → List ℕ → List (Result ⊤ ForgetRefusal)
 answers s t [] = []
 answers s t (id ∷ ids) =
     let k : Call Forgotten Table = forgotten s t (id ∷ []) in
@@ -77,4 +75,4 @@ singly s t (id ∷ ids) =
 -- xs has the ids of the list in whatever order: each is accepted, and in the end state and table are those that the one call leaves. `in_any_order`
 abbrev pub InAnyOrder : Type 0
 InAnyOrder = (s : State) (t : Table) (ids xs : List ℕ) → Accepts s t ids → ((id : ℕ) → occurs id xs ≡ occurs id ids)
-    → (answers s t xs ≡ replicate (length xs) Accepted) × (singly s t xs ≡ call_with (forgotten s t ids).answer.state (forgotten s t ids).lent)
+    → (answers s t xs ≡ replicate (length xs) (Ok tt)) × (singly s t xs ≡ call_with (forgotten s t ids).answer.state (forgotten s t ids).lent)

@@ -6,42 +6,44 @@ ghost use Rattle.boost_tracker_forget.specs.Forget as Spec;
 ghost use Rattle.boost_tracker_forget.specs.Forget.{without, forgotten};
 
 use crate::ids::{all_held, any_twice};
-use crate::refusal::{ForgetRefusal, ForgetVerdict};
+use crate::refusal::ForgetRefusal;
 use boost_tracker_table::{clear_beyond, clear_labels, drop_labels, drop_tracks, places_in};
 use boost_tracker_verdict::State;
 use boost_tracker_verdict::sound::sound;
 use labels::first_unlabelled;
 
 // The state is the new one, or the one given where the drop is refused.
+// Kept: WholeOrNotAtAll of specs/Laws.antt speaks of the state beside a refusal too, and bedside_forget hands it out.
 #[derive(Clone, Copy)]
 pub struct Forgotten {
-    pub verdict: ForgetVerdict,
+    pub verdict: Result<(), ForgetRefusal>,
     pub state: State,
 }
 
+#[tactic(auto, unfolding(crate::specs::Forget::verdict, crate::specs::Forget::first_of))]
 fn forget_verdict(
     state: State,
     floats: &[f32],
     counters: &[u64],
     labels: &[u8],
     ids: &[u64],
-) -> ForgetVerdict
+) -> Result<(), ForgetRefusal>
     ensures { result ≡ Spec.verdict state (table_with floats.now counters.now labels.now) ids.now }
 {
     if !sound(state, floats, counters, labels.len()) {
-        return ForgetVerdict::Refused(ForgetRefusal::TableNotSound);
+        return Err(ForgetRefusal::TableNotSound);
     }
     let held = state.count;
     if first_unlabelled(labels, held) < held {
-        return ForgetVerdict::Refused(ForgetRefusal::TrackNotLabelled);
+        return Err(ForgetRefusal::TrackNotLabelled);
     }
     if any_twice(ids) {
-        return ForgetVerdict::Refused(ForgetRefusal::IdTwice);
+        return Err(ForgetRefusal::IdTwice);
     }
     if !all_held(floats, counters, held, ids) {
-        return ForgetVerdict::Refused(ForgetRefusal::IdNotHeld);
+        return Err(ForgetRefusal::IdNotHeld);
     }
-    ForgetVerdict::Accepted
+    Ok(())
 }
 
 // The drop of an accepted list that is not empty.
@@ -80,18 +82,11 @@ pub fn forget_set(
         ≡ forgotten state (table_with floats.old counters.old labels.old) ids.now }
 {
     let verdict = forget_verdict(state, floats, counters, labels, ids);
-    let ForgetVerdict::Accepted = verdict else {
-        return Forgotten { verdict, state };
-    };
-    let many = ids.len();
-    if many == 0 {
+    if verdict.is_err() || ids.is_empty() {
         return Forgotten { verdict, state };
     }
-    let after = drop_set(state, floats, counters, labels, ids);
-    Forgotten {
-        verdict,
-        state: after,
-    }
+    let state = drop_set(state, floats, counters, labels, ids);
+    Forgotten { verdict, state }
 }
 
 // The set of one.
@@ -105,6 +100,5 @@ pub fn forget(
     ensures { call_with result (table_with floats.new counters.new labels.new)
         ≡ forgotten state (table_with floats.old counters.old labels.old) (id ∷ []) }
 {
-    let one = [id; 1];
-    forget_set(state, floats, counters, labels, &one)
+    forget_set(state, floats, counters, labels, &[id])
 }

@@ -11,13 +11,10 @@ use boost_tracker_table::{listed, load, placed};
 pub(crate) fn any_twice(ids: &[u64]) -> bool
     ensures { result ≡ twice ids.now }
 {
-    let mut i = 0;
-    while i < ids.len() {
-        let id = ids[i];
-        if listed(&ids[..i], id) {
+    for (i, id) in ids.iter().enumerate() {
+        if listed(&ids[..i], *id) {
             return true;
         }
-        i += 1;
     }
     false
 }
@@ -26,14 +23,10 @@ fn id_held(floats: &[f32], counters: &[u64], held: usize, id: u64) -> bool
     ensures { result ≡ elem id (ids_of (tracks floats.now counters.now held)) }
 {
     let n = placed(floats.len(), counters.len(), held);
-    let mut i = 0;
-    while i < n {
-        let t = load(floats, counters, held, i);
-        let other = t.id;
-        if id == other {
+    for i in 0..n {
+        if id == load(floats, counters, held, i).id {
             return true;
         }
-        i += 1;
     }
     false
 }
@@ -41,13 +34,10 @@ fn id_held(floats: &[f32], counters: &[u64], held: usize, id: u64) -> bool
 pub(crate) fn all_held(floats: &[f32], counters: &[u64], held: usize, ids: &[u64]) -> bool
     ensures { result ≡ every (λ id. elem id (ids_of (tracks floats.now counters.now held))) ids.now }
 {
-    let mut i = 0;
-    while i < ids.len() {
-        let id = ids[i];
-        if !id_held(floats, counters, held, id) {
+    for id in ids {
+        if !id_held(floats, counters, held, *id) {
             return false;
         }
-        i += 1;
     }
     true
 }

@@ -1,4 +1,4 @@
-// Forget one track or a set of them, over the lent table: document 02, N11.
+// Forget one track or a set of them, over the lent table.
 #![tactic(auto)]
 
 mod drops;
@@ -6,4 +6,4 @@ mod ids;
 mod refusal;
 
 pub use drops::{Forgotten, forget, forget_set};
-pub use refusal::{ForgetRefusal, ForgetVerdict};
+pub use refusal::ForgetRefusal;

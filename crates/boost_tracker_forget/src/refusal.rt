@@ -1,8 +1,8 @@
-// Why a drop is turned down: 11 and 10 of the frame, then document 02's 101 and 102, in this order.
+// Why a drop is turned down: the first reason that applies, in this order. The first two are those of a frame.
 ghost use Rattle.std.specs.Prelude.{◌≡◌};
 ghost use Rattle.boost_tracker_forget.specs.Forget as Spec;
 
-#[derive(Clone, Copy)]
+#[derive(Clone, Copy, Debug, PartialEq, Eq)]
 pub enum ForgetRefusal {
     // 11
     TableNotSound,
@@ -14,33 +14,15 @@ pub enum ForgetRefusal {
     IdNotHeld,
 }
 
-#[derive(Clone, Copy)]
-pub enum ForgetVerdict {
-    Accepted,
-    Refused(ForgetRefusal),
-}
+impl From<ForgetRefusal> for u32 {
+    ghost from_gives = { λ why n. n ≡ Spec.number why };
 
-impl ForgetRefusal {
-    pub fn number(self) -> u32
-        ensures { result ≡ Spec.number self }
-    {
-        match self {
+    fn from(why: ForgetRefusal) -> u32 {
+        match why {
             ForgetRefusal::TableNotSound => 11,
             ForgetRefusal::TrackNotLabelled => 10,
             ForgetRefusal::IdTwice => 101,
             ForgetRefusal::IdNotHeld => 102,
-        }
-    }
-}
-
-// 0 where a drop is accepted.
-impl ForgetVerdict {
-    pub fn number(self) -> u32
-        ensures { result ≡ Spec.answer self }
-    {
-        match self {
-            ForgetVerdict::Accepted => 0,
-            ForgetVerdict::Refused(why) => why.number(),
         }
     }
 }

@@ -10,6 +10,7 @@ use lib.ListN.{length, length-append, length-map, length-drop, take, drop, take-
 use lib.Seq.{ext_get_or, get_or-drop, get_or-take, length-take-le}
 use lib.Dec.{leb}
 use borrow.Author.Tests.{le-leb}
+use Rattle.std.proofs.Common.{Ok}
 use Rattle.laws.specs.Tests.{and_right}
 use Rattle.laws.specs.Tab.{tab, length-tab, tab_of}
 use Rattle.laws.specs.Sieve.{sieve, sieve_both}
@@ -17,7 +18,6 @@ use Rattle.laws.specs.Occurs.{occurs, occurs-append, occurs_both}
 use Rattle.boost_tracker_table.specs.Table.{Track, ids_of, blank, young, retained, unlisted}
 use Rattle.boost_tracker_table.specs.Lent.{Table, places_of}
 use Rattle.boost_tracker_table.proofs.Laws.{tracks-many}
-use Rattle.boost_tracker_verdict.specs.declared.refusal.Verdict.TheVariants.{Accepted}
 use Rattle.boost_tracker_verdict.specs.Sound.{sound, sound_table}
 use Rattle.boost_tracker_verdict.proofs.SoundLaws.{sound-placed}
 use Rattle.boost_tracker_definition.specs.Update.{Stages}
@@ -32,7 +32,7 @@ use Rattle.boost_tracker_history.specs.Balance.{Fair, EveryEvent, EveryDrop}
 
 -- ---- a frame
 
-module _ (t : Tracker) (f : Frame) (accepted : answered t f ≡ Accepted) where
+module _ (t : Tracker) (f : Frame) (accepted : answered t f ≡ Ok tt) where
   abbrev g : Stages
   g = worked t f
 

@@ -2,6 +2,7 @@
 use Rattle.std.specs.Prelude.{◌≡◌, refl, [], ◌∷◌, replicate}
 use Rattle.std.specs.Float.{nan}
 use Rattle.std.specs.Float.Ieee.{of_bits, add, sub, mul, div, lt, le}
+use Rattle.std.proofs.Common.{Ok}
 use Rattle.floats.specs.Known.{f32}
 use Rattle.laws.specs.Tab.{tab}
 use Rattle.laws.specs.Laid.{rows}
@@ -22,7 +23,6 @@ use Rattle.boost_tracker_settings.specs.declared.settings.Settings.{Settings}
 use Rattle.boost_tracker_settings.specs.Settings.{new}
 use Rattle.boost_tracker_table.specs.Table.{place_floats, place_counters, tracks, track_at, filled_up, labels_where, zero_filled}
 use Rattle.boost_tracker_table.specs.Lent.{table_with}
-use Rattle.boost_tracker_verdict.specs.declared.refusal.Verdict.TheVariants.{Accepted}
 use Rattle.boost_tracker_verdict.specs.Boxes.{Boxes, boxes_with}
 use Rattle.boost_tracker_verdict.specs.Sound.{rising, sound}
 use Rattle.boost_tracker_verdict.specs.Verdict.{workable, bad_box_at, of_table, of_boxes, of_room, verdict}
@@ -68,7 +68,7 @@ pub held_after : (held t₁ ≡ 1 ∷ []) × (held t₂ ≡ []) × (held t₃ �
 unfolding tracks track_at filled_up labels_where zero_filled update_by steps stages_from scores after_dlo dlo dlo_confidence_boost after_duo duo duo_confidence_boost remain_inds det_scores labels_started result associate_by matched started tab rows sieve elem new_track predict of_bits le
 held_after = (refl, refl, refl, refl, refl)
 
-pub accepted : (answered t₀ box ≡ Accepted) × (answered t₁ none ≡ Accepted) × (answered t₂ box ≡ Accepted)
+pub accepted : (answered t₀ box ≡ Ok tt) × (answered t₁ none ≡ Ok tt) × (answered t₂ box ≡ Ok tt)
 unfolding held_after verdict of_table of_boxes of_room sound rising every workable updatable bad_box_at bad_box beyond scan is_label det_bboxes det_labels width_of add sub mul div lt
 accepted = (refl, refl, refl)
 
@@ -79,7 +79,7 @@ pub known : (given three ≡ 1 ∷ 2 ∷ []) × (retired three ≡ 1 ∷ [])
 unfolding held_after given retired
 known = (refl, refl)
 
-pub drop-accepted : Accepts t₁.state t₁.table (1 ∷ []) × (answered u₂ box ≡ Accepted)
+pub drop-accepted : Accepts t₁.state t₁.table (1 ∷ []) × (answered u₂ box ≡ Ok tt)
 unfolding accepted forgetting first_of twice
 drop-accepted = (refl, refl)
 

@@ -6,6 +6,8 @@ use Prim.Native.Nat.{ℕ, suc, ◌+◌, ◌≤◌, zero-le}
 use native.Mathlib.Omega.{arith}
 use lib.ListN.{length, length-append}
 use lib.Ieee.{Float}
+use Rattle.std.specs.Bool.{⊤}
+use Rattle.std.proofs.Common.{Result, Ok, Err}
 use borrow.Author.Tests.{le-leb}
 use Rattle.laws.specs.Tab.{tab, length-tab, tab_add}
 use Rattle.laws.specs.Every.{every}
@@ -15,16 +17,14 @@ use Rattle.boost_tracker_settings.specs.declared.settings.Settings.{Settings}
 use Rattle.boost_tracker_table.specs.Table.{placed, tracks}
 use Rattle.boost_tracker_table.specs.Lent.{Table, places_of, tracks_in, call_with}
 use Rattle.boost_tracker_table.specs.Lent as lent
-use Rattle.boost_tracker_verdict.specs.declared.refusal.Verdict.{Verdict}
-use Rattle.boost_tracker_verdict.specs.declared.refusal.Verdict.TheVariants.{Accepted, Refused}
+use Rattle.boost_tracker_verdict.specs.declared.refusal.Refusal.{Refusal}
 use Rattle.boost_tracker_verdict.specs.Boxes.{Boxes}
 use Rattle.boost_tracker_verdict.specs.Sound.{rising, sound, sound_table}
 use Rattle.boost_tracker_verdict.specs.Verdict.{where_accepted}
 use Rattle.boost_tracker_definition.specs.Update.{Stages}
 use Rattle.boost_tracker.specs.declared.frame.UpdateAnswer.{UpdateAnswer}
 use Rattle.boost_tracker.specs.Frame.{refused_answer, accepted_answer, Memory, memory_after, labels_of, updated}
-use Rattle.boost_tracker_forget.specs.declared.refusal.ForgetVerdict.{ForgetVerdict}
-use Rattle.boost_tracker_forget.specs.declared.refusal.ForgetVerdict.TheVariants.{Accepted as Dropped, Refused as NotDropped}
+use Rattle.boost_tracker_forget.specs.declared.refusal.ForgetRefusal.{ForgetRefusal}
 use Rattle.boost_tracker_forget.specs.declared.drops.Forgotten.{Forgotten}
 use Rattle.boost_tracker_forget.specs.Forget as forget
 use Rattle.trackbox_stream.specs.Stream.{work, refuse, Printed, printed_with, framed, happens, prints, printing}
@@ -101,30 +101,30 @@ module _ {t : Tracker} {G R : List ℕ} (w : Told t G R) (s : Settings) (boxes :
   abbrev g : Stages
   g = worked t f
 
-  called : {r : UpdateAnswer} {m' : Memory} (v : Verdict) → answered t f ≡ v
+  called : {r : UpdateAnswer} {m' : Memory} (v : Result ⊤ Refusal) → answered t f ≡ v
       → call_with r m' ≡ where_accepted v (call_with (accepted_answer g) (memory_after s (labels_of t.state boxes m g) g m)) (call_with (refused_answer v t.state) m)
       → Told (tracker_with r.state m'.table) (G ++ where_accepted r.verdict (ids_started g) []) (R ++ where_accepted r.verdict (ids_retired s g) [])
   unfolding given retired
-  called {r} {m'} Accepted accepted ends =
+  called {r} {m'} (Ok tt) accepted ends =
       let answers : r ≡ accepted_answer g = ap (λ (k : lent.Call UpdateAnswer Memory). k.answer) ends in
       let leaves : m' ≡ memory_after s (labels_of t.state boxes m g) g m = ap (λ (k : lent.Call UpdateAnswer Memory). k.lent) ends in
       rw (answers, leaves) (record { history = then w.history (frame f accepted); given_are = rw w.given_are; retired_are = rw w.retired_are })
-  called {r} {m'} (Refused why) refused ends =
-      let answers : r ≡ refused_answer (Refused why) t.state = ap (λ (k : lent.Call UpdateAnswer Memory). k.answer) ends in
+  called {r} {m'} (Err why) refused ends =
+      let answers : r ≡ refused_answer (Err why) t.state = ap (λ (k : lent.Call UpdateAnswer Memory). k.answer) ends in
       let leaves : m' ≡ m = ap (λ (k : lent.Call UpdateAnswer Memory). k.lent) ends in
       rw (answers, leaves, append-nil G, append-nil R) w
 
 -- a drop by its verdict
 module _ {t : Tracker} {G R : List ℕ} (w : Told t G R) (named : List ℕ) where
-  forgot : {r : Forgotten} {table : Table} (v : ForgetVerdict) → forget.verdict t.state t.table named ≡ v → call_with r table ≡ forget.ends v t.state t.table named
+  forgot : {r : Forgotten} {table : Table} (v : Result ⊤ ForgetRefusal) → forget.verdict t.state t.table named ≡ v → call_with r table ≡ forget.ends v t.state t.table named
       → Told (tracker_with r.state table) G (R ++ where_dropped r.verdict (ids_dropped t named))
   unfolding given retired
-  forgot {r} {table} Dropped accepted ends =
+  forgot {r} {table} (Ok tt) accepted ends =
       let answers = ap (λ (k : lent.Call Forgotten Table). k.answer) ends in
       let leaves = ap (λ (k : lent.Call Forgotten Table). k.lent) ends in
       rw (answers, leaves)
       (record { history = then w.history (forgets named accepted); given_are = append-nil (given w.history) ∙ w.given_are; retired_are = rw w.retired_are })
-  forgot {r} {table} (NotDropped why) refused ends =
+  forgot {r} {table} (Err why) refused ends =
       let answers = ap (λ (k : lent.Call Forgotten Table). k.answer) ends in
       let leaves = ap (λ (k : lent.Call Forgotten Table). k.lent) ends in
       rw (answers, leaves, append-nil R) w
@@ -153,11 +153,11 @@ calls_balanced t cs = let w = row_told cs in rw (w.given_are, w.retired_are) at 
 abbrev beside : List ℕ → Night → Printed Tracker
 beside text n = printed_with text n.going n.tracker
 
-frame_beside : (n : Night) (text : List ℕ) (nth : ℕ) (bs : List BoxRecord) (v : Verdict) (e : answered n.tracker (nights.frame_of bs) ≡ v)
+frame_beside : (n : Night) (text : List ℕ) (nth : ℕ) (bs : List BoxRecord) (v : Result ⊤ Refusal) (e : answered n.tracker (nights.frame_of bs) ≡ v)
     → framed (beside text n) nth (trackbox.frame_then v n.tracker (trackbox.labels_of n.tracker (frame_boxes bs) (stages n.tracker (frame_boxes bs))) (stages n.tracker (frame_boxes bs)))
     ≡ beside (framed (beside text n) nth (trackbox.frame_then v n.tracker (trackbox.labels_of n.tracker (frame_boxes bs) (stages n.tracker (frame_boxes bs))) (stages n.tracker (frame_boxes bs)))).text (nights.frame_then n bs v e)
-frame_beside n text nth bs Accepted e = refl
-frame_beside n text nth bs (Refused why) e = refl
+frame_beside n text nth bs (Ok tt) e = refl
+frame_beside n text nth bs (Err why) e = refl
 
 event_beside : (n : Night) (text : List ℕ) (e : stream.Event) → happens trackbox.updated (beside text n) e ≡ beside (happens trackbox.updated (beside text n) e).text (night_then n e)
 unfolding trackbox.frame

@@ -1,14 +1,13 @@
 -- Calls of `update` and of `forget_set` in a row, from an empty table: each is given the state and the table that the one before left, and ends as its contract says, accepted or turned down. `forget` is the set of one.
 -- Settings, boxes, labels and what else is lent may be others at each call. The contract of bedside_update, for C, cites the same `updated`.
-use Rattle.std.specs.Prelude.{◌≡◌, List, [], ◌++◌, ℕ, length, Float}
+use Rattle.std.specs.Prelude.{◌≡◌, List, [], ◌++◌, ℕ, length, Float, ⊤, Result, Ok, Err}
 use Rattle.boost_tracker_settings.specs.declared.settings.Settings.{Settings}
 use Rattle.boost_tracker_table.specs.Lent.{Table, call_with}
 use Rattle.boost_tracker_verdict.specs.Boxes.{Boxes}
 use Rattle.boost_tracker_verdict.specs.Verdict.{where_accepted}
 use Rattle.boost_tracker.specs.declared.frame.UpdateAnswer.{UpdateAnswer}
 use Rattle.boost_tracker.specs.Frame.{Memory, updated}
-use Rattle.boost_tracker_forget.specs.declared.refusal.ForgetVerdict.{ForgetVerdict}
-use Rattle.boost_tracker_forget.specs.declared.refusal.ForgetVerdict.TheVariants.{Accepted, Refused}
+use Rattle.boost_tracker_forget.specs.declared.refusal.ForgetRefusal.{ForgetRefusal}
 use Rattle.boost_tracker_forget.specs.declared.drops.Forgotten.{Forgotten}
 use Rattle.boost_tracker_forget.specs.Forget.{forgotten}
 use Rattle.trackbox_feed.specs.Trackbox.{Tracker, tracker_with}
@@ -59,9 +58,9 @@ given_by (drop cs c) = given_by cs
 given_by (copied cs table holds) = given_by cs
 
 -- what an accepted drop retires
-abbrev pub where_dropped : ForgetVerdict → List ℕ → List ℕ
-where_dropped Accepted ids = ids
-where_dropped (Refused why) ids = []
+abbrev pub where_dropped : Result ⊤ ForgetRefusal → List ℕ → List ℕ
+where_dropped (Ok _) ids = ids
+where_dropped (Err why) ids = []
 
 unfoldable pub retired_by : {t : Tracker} → Calls t → List ℕ
 retired_by (none table) = []

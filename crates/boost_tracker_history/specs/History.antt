@@ -1,12 +1,11 @@
--- Document 02, N7: "Over any sequence of accepted frames from an empty table, tracks started equal tracks held plus tracks retired, both counted from the history of frames, and no id is given twice." N11: "Dropped tracks count as retired in N7's balance."
+-- Over any sequence of accepted frames from an empty table, tracks started equal tracks held plus tracks retired, both counted from the history of frames, and no id is given twice. Tracks that are dropped count as retired.
 -- A history is such a sequence: an empty table, and events one after the other, each on the tracker that the one before left. Each event has the ids that it gives and the ids that it retires.
-use Rattle.std.specs.Prelude.{◌≡◌, not, List, [], ◌++◌, ℕ, ◌≤◌, length, drop}
+use Rattle.std.specs.Prelude.{◌≡◌, not, List, [], ◌++◌, ℕ, ◌≤◌, length, drop, ⊤, Result, Ok}
 use Rattle.laws.specs.Sieve.{sieve}
 use Rattle.boost_tracker_settings.specs.declared.settings.Settings.{Settings}
 use Rattle.boost_tracker_table.specs.Table.{Track, ids_of, young, unlisted}
 use Rattle.boost_tracker_table.specs.Lent.{Table, places_of, tracks_in, labels_in, holding}
-use Rattle.boost_tracker_verdict.specs.declared.refusal.Verdict.{Verdict}
-use Rattle.boost_tracker_verdict.specs.declared.refusal.Verdict.TheVariants.{Accepted}
+use Rattle.boost_tracker_verdict.specs.declared.refusal.Refusal.{Refusal}
 use Rattle.boost_tracker_verdict.specs.Boxes.{Boxes}
 use Rattle.boost_tracker_verdict.specs.Verdict.{verdict}
 use Rattle.boost_tracker_definition.specs.Update.{Stages, update, state_after, labels_started, labels_retained}
@@ -34,7 +33,7 @@ pub record Frame : Type 0 where
   pub work64 : ℕ
   pub work32 : ℕ
 
-abbrev pub answered : Tracker → Frame → Verdict
+abbrev pub answered : Tracker → Frame → Result ⊤ Refusal
 answered t f = verdict f.settings t.state t.table f.boxes f.output f.work64 f.work32
 
 -- its stages by the definition, and what it leaves where it is accepted
@@ -46,7 +45,7 @@ leaves t f =
     let g : Stages = worked t f in
     tracker_with (state_after g) (holding g.retained (labels_retained f.settings (labels_started f.boxes.labels (labels_of t) g) g) t.table)
 
--- ---- a drop of the tracks that a list names, document 02, N11, and what it leaves where it is accepted
+-- ---- a drop of the tracks that a list names, and what it leaves where it is accepted
 
 abbrev pub dropping : Tracker → List ℕ → Tracker
 dropping t named = tracker_with (dropped t.state t.table named).answer (dropped t.state t.table named).lent
@@ -61,7 +60,7 @@ pub record Holds (t : Tracker) (table : Table) : Type 0 where
 
 pub data Event (t : Tracker) : Type 0 where
   -- a frame that is accepted
-  frame : (f : Frame) → answered t f ≡ Accepted → Event t
+  frame : (f : Frame) → answered t f ≡ Ok tt → Event t
   -- a drop that is accepted
   forgets : (named : List ℕ) → Accepts t.state t.table named → Event t
   -- the table is lent in another size: what it holds was copied

@@ -1,10 +1,9 @@
 -- The frames that trackbox works of a stream, one after the other, are a history: each that is accepted is an event, and the first refusal ends it.
 -- `events` of trackbox_stream is what is done with an input, and `printing` what comes of it by the definition of trackbox, whose text is what the code prints (PrintedIs of trackbox_feed).
-use Rattle.std.specs.Prelude.{◌≡◌, refl, Bool, true, false, cond}
+use Rattle.std.specs.Prelude.{◌≡◌, refl, Bool, true, false, cond, ⊤, Result, Ok, Err}
 use mathlib.Core.List.{List, foldl}
 use Rattle.records.specs.declared.box_record.BoxRecord.{BoxRecord}
-use Rattle.boost_tracker_verdict.specs.declared.refusal.Verdict.{Verdict}
-use Rattle.boost_tracker_verdict.specs.declared.refusal.Verdict.TheVariants.{Accepted, Refused}
+use Rattle.boost_tracker_verdict.specs.declared.refusal.Refusal.{Refusal}
 use Rattle.trackbox_stream.specs.Stream.{work, refuse, printing}
 use Rattle.trackbox_stream.specs.Stream as stream
 use Rattle.trackbox_feed.specs.Trackbox.{settings, lent_output, lent_doubles, lent_singles, Tracker, begin, frame_boxes, updated}
@@ -27,9 +26,9 @@ ended n = record { tracker = n.tracker; history = n.history; going = false }
 abbrev pub frame_of : List BoxRecord → Frame
 frame_of bs = record { settings = settings; boxes = frame_boxes bs; output = lent_output; work64 = lent_doubles; work32 = lent_singles }
 
-abbrev pub frame_then : (n : Night) (bs : List BoxRecord) (v : Verdict) → answered n.tracker (frame_of bs) ≡ v → Night
-frame_then n bs Accepted e = record { tracker = after {t = n.tracker} (frame (frame_of bs) e); history = then n.history (frame (frame_of bs) e); going = true }
-frame_then n bs (Refused why) e = ended n
+abbrev pub frame_then : (n : Night) (bs : List BoxRecord) (v : Result ⊤ Refusal) → answered n.tracker (frame_of bs) ≡ v → Night
+frame_then n bs (Ok tt) e = record { tracker = after {t = n.tracker} (frame (frame_of bs) e); history = then n.history (frame (frame_of bs) e); going = true }
+frame_then n bs (Err why) e = ended n
 
 abbrev pub night_then : Night → stream.Event → Night
 night_then n (work f bs nth) = frame_then n bs (answered n.tracker (frame_of bs)) refl

@@ -4,4 +4,4 @@
 mod mh_dist;
 mod sizes;
 
-pub use mh_dist::{get_mh_dist_matrix, sigma_inv};
+pub use mh_dist::{det, get_mh_dist_matrix, sigma_inv};

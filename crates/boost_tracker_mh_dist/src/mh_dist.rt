@@ -10,11 +10,12 @@ ghost use Rattle.boost_tracker_mh_dist.specs.MhDist as MhDist;
 ghost use Rattle.boost_tracker_mh_dist.specs.Private.{distance_to, Stated};
 
 use super::sizes::of_states;
-use refusals::Verdict;
+use refusals::Refusal;
 use strack::rect::Xyxy;
 use strack::strack::KalmanBoxTracker;
 use strack_filter::kalman_filter::DetectBox;
 
+#[tactic(auto, unfolding(crate::specs::MhDist::reciprocal))]
 fn reciprocal(v: f32) -> f32
     ensures { result ≡ MhDist.reciprocal v }
 {
@@ -35,7 +36,7 @@ pub fn sigma_inv(tracker: KalmanBoxTracker) -> DetectBox
 }
 
 // Box i of a list of corners.
-fn det(detections: &[f32], i: usize) -> Xyxy
+pub fn det(detections: &[f32], i: usize) -> Xyxy
     requires { i * 4 + 4 ≤ length detections.now }
     ensures { result ≡ MhDist.det detections.now i }
 {
@@ -69,11 +70,8 @@ fn distance_row(z: DetectBox, x: &[f32], sigma: &[f32], row: &mut [f32])
     requires { (length x.now ≡ length row.old * 4) × (length sigma.now ≡ length row.old * 4) }
     ensures { row.new ≡ tab (distance_to z x.now sigma.now) (length row.old) }
 {
-    let tracks = row.len();
-    let mut j = 0;
-    while j < tracks {
-        row[j] = distance(z, x, sigma, j);
-        j += 1;
+    for (j, cell) in row.iter_mut().enumerate() {
+        *cell = distance(z, x, sigma, j);
     }
 }
 
@@ -89,17 +87,14 @@ fn distance_rows(
     requires { Stated boxes tracks (length detections.now) (length x.now) (length sigma.now) (length out.old) }
     ensures { out.new ≡ grid (MhDist.mh_dist (MhDist.z detections.now) (cell_at nan 4 x.now) (cell_at nan 4 sigma.now)) boxes tracks out.old }
 {
-    let mut at = 0;
-    let mut i = 0;
-    while i < boxes {
+    for i in 0..boxes {
+        let at = i * tracks;
         distance_row(
             strack::strack::convert_bbox_to_z(det(detections, i)),
             x,
             sigma,
             &mut out[at..at + tracks],
         );
-        at += tracks;
-        i += 1;
     }
 }
 
@@ -111,21 +106,18 @@ pub fn get_mh_dist_matrix(
     x: &[f32],
     sigma: &[f32],
     out: &mut [f32],
-) -> Verdict
+) -> Result<(), Refusal>
     ensures answer { result ≡ of_states boxes tracks (length detections.now) (length x.now) (length sigma.now) (length out.old) }
     ensures cells { out.new ≡ after result (MhDist.mh_dist (MhDist.z detections.now) (cell_at nan 4 x.now) (cell_at nan 4 sigma.now)) boxes tracks out.old }
 {
-    let verdict = of_states(
+    of_states(
         boxes,
         tracks,
         detections.len(),
         x.len(),
         sigma.len(),
         out.len(),
-    );
-    let Verdict::Accepted = verdict else {
-        return verdict;
-    };
+    )?;
     distance_rows(boxes, tracks, detections, x, sigma, out);
-    verdict
+    Ok(())
 }

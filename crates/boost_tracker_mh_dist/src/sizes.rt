@@ -3,7 +3,7 @@ ghost use Rattle.std.specs.Prelude.{◌≡◌};
 ghost use Rattle.boost_tracker_mh_dist.specs.Sizes as Sizes;
 
 use boost_tracker_boosts::too_many;
-use refusals::{Refusal, Verdict};
+use refusals::Refusal;
 
 pub(crate) fn of_states(
     boxes: usize,
@@ -12,17 +12,17 @@ pub(crate) fn of_states(
     x: usize,
     sigma: usize,
     out: usize,
-) -> Verdict
+) -> Result<(), Refusal>
     ensures { result ≡ Sizes.of_states boxes tracks detections x sigma out }
 {
     if too_many(boxes, tracks) {
-        return Verdict::Refused(Refusal::TooMany);
+        return Err(Refusal::TooMany);
     }
     if (detections != boxes * 4) | (x != tracks * 4) | (sigma != tracks * 4) {
-        return Verdict::Refused(Refusal::OtherSize);
+        return Err(Refusal::OtherSize);
     }
     if out < boxes * tracks {
-        return Verdict::Refused(Refusal::TooShort);
+        return Err(Refusal::TooShort);
     }
-    Verdict::Accepted
+    Ok(())
 }

@@ -17,15 +17,15 @@ use Rattle.floats.specs.Single.{plus_zero}
 use Rattle.strack.specs.Strack.{predict}
 use Rattle.refusals.specs.declared.refusal.Refusal.{Refusal}
 use Rattle.refusals.specs.declared.refusal.Refusal.TheVariants.{TooShort}
-use Rattle.refusals.specs.declared.refusal.Verdict.TheVariants as verdict
+use Rattle.std.specs.Bool.{⊤}
+use Rattle.std.proofs.Common.{Result, Ok, Err}
 use Rattle.refusals.proofs.Laws.{number-some}
+use Rattle.boost_tracker_verdict.specs.declared.refusal.Refusal.{Refusal as FrameRefusal}
 use Rattle.assoc_cost.specs.declared.cost.AssociateParams.{AssociateParams}
 use Rattle.assoc_matching.specs.Matching.{Pair, boxes_of, tracks_of}
 use Rattle.assoc_matching.specs.Answers as Matching
 use Rattle.assoc_matching.specs.Answers.{zeroed}
 use Rattle.assoc_assignment.specs.declared.assignment.AssignmentCounts.{AssignmentCounts}
-use Rattle.assoc_assignment.specs.declared.assignment.AssignmentAnswer.{AssignmentAnswer}
-use Rattle.assoc_assignment.specs.declared.assignment.AssignmentAnswer.TheVariants.{Assigned, Refused}
 use Rattle.assoc_assignment.specs.Assignment.{Assignment}
 use Rattle.assoc_assignment.specs.Answers as Answers
 use Rattle.assoc_assignment.specs.Answers.{Lists, lists_with, listed, room_with, room_of, assignment_counts, assignment_number, assignment_values}
@@ -36,8 +36,6 @@ use Rattle.assoc.proofs.EndLaws.{within-accepted}
 use Rattle.boost_tracker_settings.specs.declared.settings.Settings.{Settings}
 use Rattle.boost_tracker_table.specs.Table.{Track}
 use Rattle.boost_tracker_table.specs.Lent.{Table, tracks_in, labels_in, Call, call_with}
-use Rattle.boost_tracker_verdict.specs.declared.refusal.Verdict.{Verdict as FrameVerdict}
-use Rattle.boost_tracker_verdict.specs.declared.refusal.Verdict.TheVariants as frame-verdict
 use Rattle.boost_tracker_verdict.specs.declared.sound.State.{State}
 use Rattle.boost_tracker_verdict.specs.Boxes.{Boxes}
 use Rattle.boost_tracker_verdict.specs.Verdict as Frame
@@ -47,7 +45,7 @@ use Rattle.boost_tracker_verdict.proofs.ReadyLaws.{ready}
 use Rattle.boost_tracker_definition.specs.Update.{det_labels, params, mh_dist, result, Stages, stages_from, steps, update_by, update}
 use Rattle.boost_tracker_definition.proofs.FactLaws.{retained-few, inds-many}
 use Rattle.boost_tracker_pairs.specs.declared.pairing.Prepared.{Prepared}
-use Rattle.boost_tracker_pairs.specs.Pairs.{Inputs, inputs_with, roomy, roomy_for, PreparedAs, PrepareCall, fits, pairs_call}
+use Rattle.boost_tracker_pairs.specs.Pairs.{Inputs, inputs_with, roomy, roomy_for, PreparedAs, verdict_in, PrepareCall, fits, pairs_call}
 use Rattle.boost_tracker_pairs.specs.Private.{Sized, ListRoom}
 use Rattle.boost_tracker_pairs.proofs.PairLaws.{corners-many, trks-many, confs-many}
 
@@ -67,11 +65,11 @@ fits-known kept held labels lists e =
     )
 
 module _ (s : Settings) (kept held : ℕ) (l : Inputs) (track_labels : List ℕ) (lent : Lent) {room fit : Bool} (er : room ≡ roomy_for l) (ef : fit ≡ fits kept held (length track_labels) room) where
-  pub pairs-short : fit ≡ false → Answers.call_with (Refused TooShort) lent ≡ pairs_call s kept held l track_labels lent
+  pub pairs-short : fit ≡ false → Answers.call_with (Err TooShort) lent ≡ pairs_call s kept held l track_labels lent
   unfolding pairs_call
   pairs-short e = rw (← er, sym ef ∙ e)
 
-  pub pairs-done : (r : AssignmentAnswer) {q : AssociateParams} {l' : Lent} → fit ≡ true → q ≡ params s kept held
+  pub pairs-done : (r : Result AssignmentCounts Refusal) {q : AssociateParams} {l' : Lent} → fit ≡ true → q ≡ params s kept held
       → Answers.call_with r l'
       ≡ within_call q kept held (take (kept * 4) l.corners) (take (held * 4) l.trks) (take held l.confs) (take kept l.scores) (take kept l.labels) (take held track_labels) lent
       → Answers.call_with r l' ≡ pairs_call s kept held l track_labels lent
@@ -94,7 +92,7 @@ and_none true = refl
 and_none false = refl
 
 sizes_accepted : (params : AssociateParams) (held corners trks confs scores pair_boxes pair_tracks unmatched left work64 work32 : ℕ) → Sized held corners trks confs scores work64 work32
-    → ListRoom pair_boxes pair_tracks unmatched left → within_verdict params scores held corners trks confs scores (room_with pair_boxes pair_tracks unmatched left) work64 work32 ≡ verdict.Accepted
+    → ListRoom pair_boxes pair_tracks unmatched left → within_verdict params scores held corners trks confs scores (room_with pair_boxes pair_tracks unmatched left) work64 work32 ≡ Ok tt
 unfolding within_verdict
 sizes_accepted params held corners trks confs scores pair_boxes pair_tracks unmatched left work64 work32 s r =
     let few : min scores held ≤ scores = min-le_left scores held in
@@ -123,19 +121,19 @@ sizes_accepted params held corners trks confs scores pair_boxes pair_tracks unma
 -- ---- an answer
 
 -- one with the number 0 has these counts
-assigned-is : {r : AssignmentAnswer} {q : AssignmentCounts} {l l' : Lent} → Answers.call_with r l ≡ Answers.call_with (Assigned q) l' → call_with r l ≡ call_with (Assigned q) l'
+assigned-is : {r : Result AssignmentCounts Refusal} {q : AssignmentCounts} {l l' : Lent} → Answers.call_with r l ≡ Answers.call_with (Ok q) l' → call_with r l ≡ call_with (Ok q) l'
 assigned-is {r} {q} {l} {l'} w = by_cases r (ap (λ (k : Matching.Call AssignmentCounts Lent). k.number) w) (ap (λ (k : Matching.Call AssignmentCounts Lent). k.counts) w)
   where
     same : l ≡ l'
     same = ap (λ (k : Matching.Call AssignmentCounts Lent). k.lent) w
 
-    by_cases : (a : AssignmentAnswer) → assignment_number a ≡ 0 → assignment_values a ≡ q → call_with a l ≡ call_with (Assigned q) l'
-    by_cases (Assigned counts) n e = ap (λ (k : AssignmentCounts). call_with (Assigned k) l) e ∙ ap (λ (k : Lent). call_with (Assigned q) k) same
-    by_cases (Refused why) n e = absurd (number-some why n)
+    by_cases : (a : Result AssignmentCounts Refusal) → assignment_number a ≡ 0 → assignment_values a ≡ q → call_with a l ≡ call_with (Ok q) l'
+    by_cases (Ok counts) n e = ap (λ (k : AssignmentCounts). call_with (Ok k) l) e ∙ ap (λ (k : Lent). call_with (Ok q) k) same
+    by_cases (Err why) n e = absurd (number-some why n)
 
-never_unpaired : {L : Type 0} {r : AssignmentAnswer} {q : AssignmentCounts} {why : Refusal} {l l' : L} → call_with r l ≡ call_with (Assigned q) l' → r ≡ Refused why → ⊥
+never_unpaired : {L : Type 0} {r : Result AssignmentCounts Refusal} {q : AssignmentCounts} {why : Refusal} {l l' : L} → call_with r l ≡ call_with (Ok q) l' → r ≡ Err why → ⊥
 never_unpaired {L} {r} {q} {why} w e =
-    let clash : Assigned q ≡ Refused why = sym (ap (λ (k : Call AssignmentAnswer L). k.answer) w) ∙ e in
+    let clash : Ok q ≡ Err why = sym (ap (λ (k : Call (Result AssignmentCounts Refusal) L). k.answer) w) ∙ e in
     let z : ◌≡◌ {A = ℕ} 0 1 = cc in
     omega arith
 
@@ -153,29 +151,29 @@ module _ (self : Settings) (corners probs ts cs : List Float) (box_labels : List
   unfolding result
   result-is work e = rw (many, e)
 
-  pair_is : (lent : Lent) {r : AssignmentAnswer} {l' : Lent} → Sized held (length corners) (length ts) (length cs) (length probs) (length lent.work64) (length lent.work32)
+  pair_is : (lent : Lent) {r : Result AssignmentCounts Refusal} {l' : Lent} → Sized held (length corners) (length ts) (length cs) (length probs) (length lent.work64) (length lent.work32)
       → ListRoom (length lent.lists.pair_boxes) (length lent.lists.pair_tracks) (length lent.lists.unmatched_detections) (length lent.lists.unmatched_tracks)
       → take (length probs * held) lent.work32 ≡ mh_dist (length probs) corners trackers
       → Answers.call_with r l' ≡ within_call (params self (length probs) held) (length probs) held corners ts cs probs box_labels labels lent
-      → call_with r l' ≡ call_with (Assigned (assignment_counts a)) (lent_after a lent)
+      → call_with r l' ≡ call_with (Ok (assignment_counts a)) (lent_after a lent)
   pair_is lent {r} {l'} s room d w =
       let p : AssociateParams = params self (length probs) held in
       let v : Assignment = associate p (length probs) held corners ts (take (length probs * held) lent.work32) cs probs box_labels labels in
-      let fit : within_verdict p (length probs) held (length corners) (length ts) (length cs) (length probs) (room_of lent.lists) (length lent.work64) (length lent.work32) ≡ verdict.Accepted =
+      let fit : within_verdict p (length probs) held (length corners) (length ts) (length cs) (length probs) (room_of lent.lists) (length lent.work64) (length lent.work32) ≡ Ok tt =
       sizes_accepted p held (length corners) (length ts) (length cs) (length probs) _ _ _ _ (length lent.work64) (length lent.work32) s room in
-      let call : Answers.call_with r l' ≡ Answers.call_with (Assigned (assignment_counts v)) (lent_after v lent) = w ∙ sym (within-accepted p (length probs) held corners ts cs probs box_labels labels lent fit) in
+      let call : Answers.call_with r l' ≡ Answers.call_with (Ok (assignment_counts v)) (lent_after v lent) = w ∙ sym (within-accepted p (length probs) held corners ts cs probs box_labels labels lent fit) in
       assigned-is (rw (result-is lent.work32 d) at call)
 
 -- ---- for a caller whose lists have room
 
 -- the answer of `prepare` says the frame's verdict
-pub verdict-is : {s : Settings} {state : State} {boxes : Boxes} {t : Table} {room work64 i : ℕ} {l₀ l : Inputs} {work₀ work : List Float} {r : Prepared} → roomy_for l₀ ≡ true
-    → PrepareCall s state boxes t room work64 i l₀ work₀ r l work → r.verdict ≡ Frame.verdict s state t boxes room work64 (length work₀)
+pub verdict-is : {s : Settings} {state : State} {boxes : Boxes} {t : Table} {room work64 i : ℕ} {l₀ l : Inputs} {work₀ work : List Float} {r : Result Prepared FrameRefusal} → roomy_for l₀ ≡ true
+    → PrepareCall s state boxes t room work64 i l₀ work₀ r l work → verdict_in r ≡ Frame.verdict s state t boxes room work64 (length work₀)
 verdict-is {s} {state} {boxes} {t} {room} {work64} {i} {l₀} {l} {work₀} e w = w.says ∙ rw e (by_cases (Frame.verdict s state t boxes room work64 (length work₀)))
   where
-    by_cases : (v : FrameVerdict) → or_else v frame-verdict.Accepted ≡ v
-    by_cases frame-verdict.Accepted = refl
-    by_cases (frame-verdict.Refused why) = refl
+    by_cases : (v : Result ⊤ FrameRefusal) → or_else v (Ok tt) ≡ v
+    by_cases (Ok tt) = refl
+    by_cases (Err why) = refl
 
 -- the lists that a caller lends
 abbrev pub blank : Inputs
@@ -207,7 +205,7 @@ pub record Found (g : Stages) (work64 work32 : List Float) (q : AssignmentCounts
   pub zeros64 : l.work64 ≡ zeroed work64
   pub zeros32 : l.work32 ≡ cleared work32
 
-module _ (s : Settings) (state : State) (t : Table) (boxes : Boxes) (room work64 work32 : ℕ) (accepts : Frame.verdict s state t boxes room work64 work32 ≡ frame-verdict.Accepted) where
+module _ (s : Settings) (state : State) (t : Table) (boxes : Boxes) (room work64 work32 : ℕ) (accepts : Frame.verdict s state t boxes room work64 work32 ≡ Ok tt) where
   abbrev pub stages : Stages
   stages = update s state boxes (tracks_in t state.count) (labels_in t state.count)
 
@@ -243,7 +241,7 @@ module _ (s : Settings) (state : State) (t : Table) (boxes : Boxes) (room work64
 
     module _ (lists : Lists) (doubles : List Float) (fit : roomy_for l ≡ true) (doubled : length doubles ≡ work64) (singled : length work ≡ work32)
         (free : ListRoom (length lists.pair_boxes) (length lists.pair_tracks) (length lists.unmatched_detections) (length lists.unmatched_tracks))
-        (r : AssignmentAnswer) {l' : Lent} (call : Answers.call_with r l' ≡ pairs_call s p.kept state.count l t.labels (record { lists = lists; work64 = doubles; work32 = work })) where
+        (r : Result AssignmentCounts Refusal) {l' : Lent} (call : Answers.call_with r l' ≡ pairs_call s p.kept state.count l t.labels (record { lists = lists; work64 = doubles; work32 = work })) where
       abbrev lent : Lent
       lent = record { lists = lists; work64 = doubles; work32 = work }
 
@@ -287,20 +285,20 @@ module _ (s : Settings) (state : State) (t : Table) (boxes : Boxes) (room work64
             singles = rw singled (quadruple (max kept m * max kept m) (max m n * max m n) work32 (square-less kept m n (max m n * max m n) few (le_refl (max m n * max m n))) knows.singles);
           }
 
-      ended : call_with r l' ≡ call_with (Assigned (assignment_counts found)) (lent_after found lent)
+      ended : call_with r l' ≡ call_with (Ok (assignment_counts found)) (lent_after found lent)
       unfolding update_by steps stages_from
       ended =
           pair_is s stages.det_bboxes stages.det_scores stages.trks stages.confs (det_labels boxes.labels stages.remain_inds) stages.predicted (labels_in t state.count) state.count predicted-many lent
           sized free (ap (λ (n : ℕ). take (n * state.count) work) counted ∙ w.distances_are) within
 
       -- the pairs of an accepted frame are found
-      pub never_refused : {why : Refusal} → r ≡ Refused why → ⊥
+      pub never_refused : {why : Refusal} → r ≡ Err why → ⊥
       never_refused e = never_unpaired ended e
 
-      pub found-is : (work₀ : List Float) {q : AssignmentCounts} → length work₀ ≡ work32 → r ≡ Assigned q → Found stages doubles work₀ q l'
+      pub found-is : (work₀ : List Float) {q : AssignmentCounts} → length work₀ ≡ work32 → r ≡ Ok q → Found stages doubles work₀ q l'
       found-is work₀ {q} same e =
-          let lists_are : l'.lists ≡ listed found lists = ap (λ (k : Call AssignmentAnswer Lent). k.lent.lists) ended in
-          let counted : q ≡ assignment_counts found = ap assignment_values (sym e ∙ ap (λ (k : Call AssignmentAnswer Lent). k.answer) ended) in
+          let lists_are : l'.lists ≡ listed found lists = ap (λ (k : Call (Result AssignmentCounts Refusal) Lent). k.lent.lists) ended in
+          let counted : q ≡ assignment_counts found = ap assignment_values (sym e ∙ ap (λ (k : Call (Result AssignmentCounts Refusal) Lent). k.answer) ended) in
           let many : q.pairs ≡ length found.matches = ap (λ (c : AssignmentCounts). c.pairs) counted in
           record {
             counts_are = counted;
@@ -308,6 +306,6 @@ module _ (s : Settings) (state : State) (t : Table) (boxes : Boxes) (room work64
             tracks_are = rw lists_are (over-front (tracks_of found.matches) lists.pair_tracks q.pairs (many ∙ sym (length-map found.matches (λ (p : Pair). p.track))));
             unmatched_are = rw lists_are (over-front found.unmatched_detections lists.unmatched_detections q.detections (ap (λ (c : AssignmentCounts). c.detections) counted));
             left_are = rw lists_are (over-front found.unmatched_tracks lists.unmatched_tracks q.tracks (ap (λ (c : AssignmentCounts). c.tracks) counted));
-            zeros64 = ap (λ (k : Call AssignmentAnswer Lent). k.lent.work64) ended;
-            zeros32 = ap (λ (k : Call AssignmentAnswer Lent). k.lent.work32) ended ∙ cleared-same work work₀ (singled ∙ sym same);
+            zeros64 = ap (λ (k : Call (Result AssignmentCounts Refusal) Lent). k.lent.work64) ended;
+            zeros32 = ap (λ (k : Call (Result AssignmentCounts Refusal) Lent). k.lent.work32) ended ∙ cleared-same work work₀ (singled ∙ sym same);
           }

@@ -19,16 +19,13 @@ use Rattle.floats.specs.Single.{plus_zero}
 use Rattle.laws.specs.Over.{over-front}
 use Rattle.strack.specs.Strack.{predict, get_state}
 use Rattle.strack.proofs.Laws.{predict_since}
-use Rattle.refusals.specs.declared.refusal.Refusal.{Refusal}
-use Rattle.refusals.specs.declared.refusal.Verdict.{Verdict}
-use Rattle.refusals.specs.declared.refusal.Verdict.TheVariants as verdict
+use Rattle.std.specs.Bool.{⊤}
+use Rattle.std.proofs.Common.{Result, Ok, Err}
 use Rattle.boost_tracker_settings.specs.declared.settings.Settings.{Settings}
 use Rattle.boost_tracker_table.specs.Table.{Track, blank}
-use Rattle.boost_tracker_table.specs.Lent.{Table, tracks_in, labels_in, Call, call_with}
-use Rattle.boost_tracker_verdict.specs.declared.refusal.Refusal.{Refusal as FrameRefusal}
+use Rattle.boost_tracker_table.specs.Lent.{Table, tracks_in, labels_in}
+use Rattle.boost_tracker_verdict.specs.declared.refusal.Refusal.{Refusal}
 use Rattle.boost_tracker_verdict.specs.declared.refusal.Refusal.TheVariants.{WorkShort}
-use Rattle.boost_tracker_verdict.specs.declared.refusal.Verdict.{Verdict as FrameVerdict}
-use Rattle.boost_tracker_verdict.specs.declared.refusal.Verdict.TheVariants as frame-verdict
 use Rattle.boost_tracker_verdict.specs.declared.sound.State.{State}
 use Rattle.boost_tracker_verdict.specs.Boxes.{Boxes}
 use Rattle.boost_tracker_verdict.specs.Verdict as Frame
@@ -37,11 +34,10 @@ use Rattle.boost_tracker_verdict.specs.Ready.{Ready}
 use Rattle.boost_tracker_mh_dist.specs.MhDist.{get_mh_dist_matrix}
 use Rattle.boost_tracker_seen.specs.Seen.{remain_before, seen_with}
 use Rattle.boost_tracker_definition.specs.Update.{corners_of, xyxy_of, tracker_at, bboxes, scores, trks, confs, after_dlo, after_duo, remain_inds, det_bboxes, det_scores, det_labels, mh_dist, stages_from, steps, update_by}
-use Rattle.boost_tracker_pairs.specs.Pairs.{Inputs, inputs_with, roomy, roomy_for, seen_in, unprepared, PrepareCall, prepare_verdict}
-use Rattle.boost_tracker_pairs.specs.declared.boost.Boosted.{Boosted}
+use Rattle.boost_tracker_pairs.specs.Pairs.{Inputs, inputs_with, roomy, roomy_for, seen_in, PrepareCall, prepare_verdict}
 use Rattle.boost_tracker_seen.specs.declared.seen.Seen.{Seen}
 use Rattle.boost_tracker_pairs.specs.declared.pairing.Prepared.{Prepared}
-use Rattle.boost_tracker_pairs.specs.Private.{accepted, SinceLow, LocalRoom, StateRoom, TrackLists, TracksRead, handed_on, boosted_with, box_lists_with, Retained, Raised, Distant, TrackRoom, Room, Readied, once, twice, inds}
+use Rattle.boost_tracker_pairs.specs.Private.{SinceLow, LocalRoom, StateRoom, TrackLists, TracksRead, box_lists_with, Retained, Raised, Distant, TrackRoom, Room, Readied, once, twice, inds}
 
 -- ---- sizes
 
@@ -69,17 +65,6 @@ distant_room kept {held} {n} {floats} {counters} {labels} {work32} w fewer ec s 
 
 -- ---- steps 1 to 4
 
--- a stage that is accepted is not refused
-pub accepted-only : {v : Verdict} {why : Refusal} → v ≡ verdict.Accepted → v ≡ verdict.Refused why → ⊥
-accepted-only {v} {why} a e =
-    let clash : verdict.Accepted ≡ verdict.Refused why = sym a ∙ e in
-    let z : ◌≡◌ {A = ℕ} 0 1 = cc in
-    omega arith
-
-pub raised-accepts : {self : Settings} {frame : ℕ} {boxes : Boxes} {P : List Track} {L : List ℕ} {held seen : ℕ} {r : Boosted} {corners probs : List Float} {l : TrackLists} → Raised self frame boxes P L held seen r corners probs l
-    → r.verdict ≡ verdict.Accepted
-raised-accepts w = ap (λ (k : Call Boosted (List Float)). k.answer.verdict) w.raised
-
 pub corners-many : (objects : List Float) (is : List ℕ) → length (det_bboxes objects is) ≡ length is * 4
 unfolding det_bboxes
 corners-many objects is = length-rows (λ i. corners_of (xyxy_of objects i)) 4 (λ _. refl) is
@@ -104,16 +89,21 @@ module _ (self : Settings) (frame : ℕ) (boxes : Boxes) (P : List Track) (L : L
   abbrev like : ℕ → ℕ → Bool
   like = alike same_label boxes.labels L
 
-  pub raised_is : {r : Boosted} {corners probs probs' : List Float} {l : TrackLists} → corners ≡ bboxes boxes.values → probs ≡ scores boxes.values → TracksRead held P l
-      → call_with r probs' ≡ boosted_with (get_or (after_dlo like self corners l.trks l.confs P probs) seen plus_zero) (after_duo self frame corners P (after_dlo like self corners l.trks l.confs P probs))
-      → Raised self frame boxes P L held seen r corners probs' l
-  raised_is {r} {corners} {probs} {probs'} {l} ec es q e = record { raised = e ∙ rw (ec, es, q.trks_are, q.confs_are); corners_are = ec; read = q }
+  pub raised_is : {one : Float} {corners probs probs' : List Float} {l : TrackLists} → corners ≡ bboxes boxes.values → probs ≡ scores boxes.values → TracksRead held P l
+      → (one ≡ get_or (after_dlo like self corners l.trks l.confs P probs) seen plus_zero) × (probs' ≡ after_duo self frame corners P (after_dlo like self corners l.trks l.confs P probs))
+      → Raised self frame boxes P L held seen one corners probs' l
+  raised_is {one} {corners} {probs} {probs'} {l} ec es q e = record {
+    first = e.0 ∙ rw (ec, es, q.trks_are, q.confs_are);
+    raised = e.1 ∙ rw (ec, es, q.trks_are, q.confs_are);
+    corners_are = ec;
+    read = q;
+  }
 
   -- with the retained boxes' distances in the front of the work slice
-  module _ (labels₀ : List ℕ) (work : List Float) {r : Boosted} {corners probs corners' probs' work' : List Float} {l : TrackLists} {labels : List ℕ} {kept : ℕ} {asked : Seen} {v : Verdict} {said : FrameVerdict}
-      (w : Raised self frame boxes P L held seen r corners probs l) (es : asked ≡ seen_with self.det_thresh r.once probs seen)
+  module _ (labels₀ : List ℕ) (work : List Float) {one : Float} {corners probs corners' probs' work' : List Float} {l : TrackLists} {labels : List ℕ} {kept : ℕ} {asked : Seen}
+      (w : Raised self frame boxes P L held seen one corners probs l) (es : asked ≡ seen_with self.det_thresh one probs seen)
       (k : Retained self.det_thresh boxes (box_lists_with probs corners labels₀) (box_lists_with probs' corners' labels) kept) (many : length probs ≡ boxes_in boxes.values)
-      (d : call_with v work' ≡ accepted (grid (get_mh_dist_matrix (take (kept * 4) corners') (tracker_at P)) kept held work)) (hand : said ≡ handed_on v) where
+      (d : work' ≡ grid (get_mh_dist_matrix (take (kept * 4) corners') (tracker_at P)) kept held work) where
     abbrev is : List ℕ
     is = inds self frame boxes P L
 
@@ -127,26 +117,20 @@ module _ (self : Settings) (frame : ℕ) (boxes : Boxes) (P : List Track) (L : L
     Q = det_scores (twice self frame boxes P L) is
 
     abbrev answer : Prepared
-    answer = record { verdict = said; kept = kept; seen = asked }
-
-    scored : probs ≡ twice self frame boxes P L
-    scored = ap (λ (c : Call Boosted (List Float)). c.lent) w.raised
-
-    first : r.once ≡ get_or (once self frame boxes P L) seen plus_zero
-    first = ap (λ (c : Call Boosted (List Float)). c.answer.once) w.raised
+    answer = record { kept = kept; seen = asked }
 
     counted : kept ≡ length is
-    counted = k.count ∙ ap (λ (q : List Float). length (remain_inds self.det_thresh q)) scored
+    counted = k.count ∙ ap (λ (q : List Float). length (remain_inds self.det_thresh q)) w.raised
 
     told : asked ≡ seen_in self.det_thresh (once self frame boxes P L) (twice self frame boxes P L) seen
     unfolding remain_before
-    told = rw (es, first, scored)
+    told = rw (es, w.first, w.raised)
 
     front-corners : take (kept * 4) corners' ≡ D
-    front-corners = rw (k.corners_are, scored) (over-front D corners (kept * 4) (ap (λ (n : ℕ). n * 4) counted ∙ sym (corners-many boxes.values is)))
+    front-corners = rw (k.corners_are, w.raised) (over-front D corners (kept * 4) (ap (λ (n : ℕ). n * 4) counted ∙ sym (corners-many boxes.values is)))
 
     front-labels : take kept labels ≡ K
-    front-labels = rw (k.labels_are, scored) (over-front K labels₀ kept (counted ∙ sym (labels-many boxes.labels is)))
+    front-labels = rw (k.labels_are, w.raised) (over-front K labels₀ kept (counted ∙ sym (labels-many boxes.labels is)))
 
     front-trks : take (held * 4) l.trks ≡ trks P
     front-trks = rw w.read.trks_are (take_all (held * 4) (trks P) (le_of_eq (trks-many P ∙ ap (λ (n : ℕ). n * 4) w.read.states.many)))
@@ -157,21 +141,19 @@ module _ (self : Settings) (frame : ℕ) (boxes : Boxes) (P : List Track) (L : L
     front_distances : take (kept * held) work' ≡ mh_dist (length Q) D P
     unfolding mh_dist
     front_distances =
-        let stored : work' ≡ grid (get_mh_dist_matrix (take (kept * 4) corners') (tracker_at P)) kept held work = ap (λ (c : Call Verdict (List Float)). c.lent) d in
         let sized : length Q ≡ kept = scores-many (twice self frame boxes P L) is ∙ sym counted in
-        rw (stored, front-corners, sized, w.read.states.many) (grid-front (get_mh_dist_matrix D (tracker_at P)) kept held work)
+        rw (d, front-corners, sized, w.read.states.many) (grid-front (get_mh_dist_matrix D (tracker_at P)) kept held work)
 
     pub readied_is : Readied self frame boxes P L held seen answer (inputs_with corners' labels probs' l.trks l.confs) work'
     unfolding steps stages_from
     readied_is = record {
-      accepts = hand ∙ ap handed_on (ap (λ (c : Call Verdict (List Float)). c.answer) d);
       few = rw many at k.few;
       prepared = λ last. record {
         count = counted;
         seen-is = told;
         corners_are = front-corners;
         labels_are = front-labels;
-        scores_are = k.scores_are ∙ ap (λ (q : List Float). det_scores q (remain_inds self.det_thresh q)) scored;
+        scores_are = k.scores_are ∙ ap (λ (q : List Float). det_scores q (remain_inds self.det_thresh q)) w.raised;
         trks_are = front-trks;
         confs_are = front-confs;
         distances_are = front_distances;
@@ -186,7 +168,6 @@ module _ (self : Settings) (frame : ℕ) (boxes : Boxes) (P : List Track) (L : L
   readied_longer corners' probs' ts' cs' {r} {corners} {probs} {ts} {cs} {work} {labels} lc lp lt ls w =
       let few = w.few in
       record {
-        accepts = w.accepts;
         few = few;
         prepared = λ last.
             let q = w.prepared last in
@@ -242,32 +223,22 @@ roomy-fits corners labels scores trks confs e =
       confs_fit = leb-true 255 confs (and_right (a && b) (leb 255 confs) e);
     }
 
--- a verdict is one of the two
-pub one-verdict : {v : FrameVerdict} {why : FrameRefusal} → v ≡ frame-verdict.Accepted → v ≡ frame-verdict.Refused why → ⊥
-one-verdict {v} {why} a e =
-    let clash : frame-verdict.Accepted ≡ frame-verdict.Refused why = sym a ∙ e in
-    let z : ◌≡◌ {A = ℕ} 0 1 = cc in
-    omega arith
-
 module _ (s : Settings) (state : State) (boxes : Boxes) (t : Table) (room work64 i : ℕ) (l : Inputs) (work : List Float) where
-  abbrev said : FrameVerdict
+  abbrev said : Result ⊤ Refusal
   said = Frame.verdict s state t boxes room work64 (length work)
 
   -- refused, and nothing changed
-  ends-unprepared : {v : FrameVerdict} {why : FrameRefusal} {r : Prepared} → v ≡ prepare_verdict s state boxes t room work64 l work → v ≡ frame-verdict.Refused why → r ≡ unprepared v
-      → PrepareCall s state boxes t room work64 i l work r l work
-  ends-unprepared {v} {why} {r} e h a =
-      let says : r.verdict ≡ v = ap (λ (p : Prepared). p.verdict) a in
-      record { says = says ∙ e; refused = λ e'. (a ∙ ap unprepared (sym says ∙ e'), refl, refl); prepared = λ e'. absurd (one-verdict e' (says ∙ h)) }
+  ends-unprepared : {why : Refusal} → Err why ≡ prepare_verdict s state boxes t room work64 l work → PrepareCall s state boxes t room work64 i l work (Err why) l work
+  ends-unprepared {why} e = record { says = e; refused = λ _. (refl, refl); prepared = λ e'. absurd (cc) }
 
-  pub ends-refused : {v : FrameVerdict} {why : FrameRefusal} {r : Prepared} → v ≡ said → v ≡ frame-verdict.Refused why → r ≡ unprepared v → PrepareCall s state boxes t room work64 i l work r l work
-  ends-refused e h a = ends-unprepared (h ∙ rw (sym e ∙ h)) h a
+  pub ends-refused : {why : Refusal} → said ≡ Err why → PrepareCall s state boxes t room work64 i l work (Err why) l work
+  ends-refused e = ends-unprepared (rw e)
 
-  pub ends-short : {v : FrameVerdict} {r : Prepared} → v ≡ said → v ≡ frame-verdict.Accepted → roomy_for l ≡ false → r ≡ unprepared (frame-verdict.Refused WorkShort) → PrepareCall s state boxes t room work64 i l work r l work
-  ends-short e h f a = ends-unprepared {why = WorkShort} (rw (sym e ∙ h, f)) refl a
+  pub ends-short : said ≡ Ok tt → roomy_for l ≡ false → PrepareCall s state boxes t room work64 i l work (Err WorkShort) l work
+  ends-short e f = ends-unprepared (rw (e, f))
 
   -- accepted
-  pub ends-prepared : {v : FrameVerdict} {r : Prepared} {l' : Inputs} {work' : List Float} → v ≡ said → v ≡ frame-verdict.Accepted → roomy_for l ≡ true
-      → Readied s (state.frames + 1) boxes (map predict (tracks_in t state.count)) (labels_in t state.count) state.count i r l' work' → PrepareCall s state boxes t room work64 i l work r l' work'
+  pub ends-prepared : {p : Prepared} {l' : Inputs} {work' : List Float} → said ≡ Ok tt → roomy_for l ≡ true
+      → Readied s (state.frames + 1) boxes (map predict (tracks_in t state.count)) (labels_in t state.count) state.count i p l' work' → PrepareCall s state boxes t room work64 i l work (Ok p) l' work'
   unfolding update_by
-  ends-prepared e h f w = record { says = w.accepts ∙ rw (sym e ∙ h, f); refused = λ e'. absurd (one-verdict w.accepts e'); prepared = λ _. w.prepared state.last }
+  ends-prepared {p} e f w = record { says = rw (e, f); refused = λ e'. absurd (cc); prepared = λ {p = p'} e'. let same : p ≡ p' = cc in rw (← same) (w.prepared state.last) }

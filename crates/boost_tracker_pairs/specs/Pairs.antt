@@ -1,13 +1,12 @@
 -- What a call of `prepare`, steps 1 to 4 of a frame, and a call of `pairs`, step 5, answer and leave in lent memory; g is the definition's value. The table is only read, so that the tracks that are paired are predicted
 -- and the lent ones are as they were.
-use Rattle.std.specs.Prelude.{◌≡◌, Bool, cond, ◌&&◌, List, ℕ, ◌*◌, min, leb, ltb, length, get_or, take, Float}
+use Rattle.std.specs.Prelude.{◌≡◌, Bool, cond, ◌&&◌, List, ℕ, ◌*◌, min, leb, ltb, length, get_or, take, Float, ⊤, Result, Ok, Err}
 use Rattle.laws.specs.Count.{count_where}
 use Rattle.floats.specs.Single.{plus_zero}
 use Rattle.strack.specs.declared.rect.Xyxy.{Xyxy}
 use Rattle.refusals.specs.declared.refusal.Refusal.TheVariants.{TooShort}
 use Rattle.assoc_matching.specs.Answers as Matching
 use Rattle.assoc_assignment.specs.declared.assignment.AssignmentCounts.{AssignmentCounts}
-use Rattle.assoc_assignment.specs.declared.assignment.AssignmentAnswer.TheVariants as answer
 use Rattle.assoc_assignment.specs.Answers as Assignments
 use Rattle.assoc.specs.Answers as Association
 use Rattle.assoc.specs.Answers.{within_call}
@@ -15,8 +14,6 @@ use Rattle.boost_tracker_settings.specs.declared.settings.Settings.{Settings}
 use Rattle.boost_tracker_table.specs.Lent.{Table, tracks_in, labels_in}
 use Rattle.boost_tracker_verdict.specs.declared.refusal.Refusal.{Refusal}
 use Rattle.boost_tracker_verdict.specs.declared.refusal.Refusal.TheVariants.{WorkShort}
-use Rattle.boost_tracker_verdict.specs.declared.refusal.Verdict.{Verdict}
-use Rattle.boost_tracker_verdict.specs.declared.refusal.Verdict.TheVariants.{Accepted, Refused}
 use Rattle.boost_tracker_verdict.specs.declared.sound.State.{State}
 use Rattle.boost_tracker_verdict.specs.Boxes.{Boxes}
 use Rattle.boost_tracker_verdict.specs.Verdict.{boxes_in, verdict, or_else}
@@ -59,12 +56,6 @@ xyxy_at objects i = cond (ltb i (boxes_in objects)) (xyxy_of objects i) nowhere
 abbrev pub seen_in : Float → List Float → List Float → ℕ → Seen
 seen_in det_thresh once twice i = record { once = get_or once i plus_zero; twice = get_or twice i plus_zero; before = count_where (remains det_thresh twice) (min i (length twice)) }
 
-abbrev pub unseen : Seen
-unseen = record { once = plus_zero; twice = plus_zero; before = 0 }
-
-abbrev pub unprepared : Verdict → Prepared
-unprepared v = record { verdict = v; kept = 0; seen = unseen }
-
 -- the fronts of the lists are the definition's; `work` has the distances in its front, and i is the box that the caller asks about
 pub record PreparedAs (s : Settings) (boxes : Boxes) (g : Stages) (held i : ℕ) (r : Prepared) (l : Inputs) (work : List Float) : Type 0 where
   pub count : r.kept ≡ length g.remain_inds
@@ -76,15 +67,20 @@ pub record PreparedAs (s : Settings) (boxes : Boxes) (g : Stages) (held i : ℕ)
   pub confs_are : take held l.confs ≡ g.confs
   pub distances_are : take (r.kept * held) work ≡ g.mh_dist
 
+-- what an answer says of the call
+abbrev pub verdict_in : Result Prepared Refusal → Result ⊤ Refusal
+verdict_in (Ok r) = Ok tt
+verdict_in (Err why) = Err why
+
 -- a call, by the lengths of the output and of the work slice of doubles that the caller has: the frame's verdict, and where that accepts and the lists are too short, 19. A refused call changes nothing
 module _ (s : Settings) (state : State) (boxes : Boxes) (t : Table) (room work64 : ℕ) where
-  abbrev pub prepare_verdict : Inputs → List Float → Verdict
-  prepare_verdict l work = or_else (verdict s state t boxes room work64 (length work)) (cond (roomy_for l) Accepted (Refused WorkShort))
+  abbrev pub prepare_verdict : Inputs → List Float → Result ⊤ Refusal
+  prepare_verdict l work = or_else (verdict s state t boxes room work64 (length work)) (cond (roomy_for l) (Ok tt) (Err WorkShort))
 
-  pub record PrepareCall (i : ℕ) (l₀ : Inputs) (work₀ : List Float) (r : Prepared) (l : Inputs) (work : List Float) : Type 0 where
-    pub says : r.verdict ≡ prepare_verdict l₀ work₀
-    pub refused : {why : Refusal} → r.verdict ≡ Refused why → (r ≡ unprepared (Refused why)) × (l ≡ l₀) × (work ≡ work₀)
-    pub prepared : r.verdict ≡ Accepted → PreparedAs s boxes (update s state boxes (tracks_in t state.count) (labels_in t state.count)) state.count i r l work
+  pub record PrepareCall (i : ℕ) (l₀ : Inputs) (work₀ : List Float) (r : Result Prepared Refusal) (l : Inputs) (work : List Float) : Type 0 where
+    pub says : verdict_in r ≡ prepare_verdict l₀ work₀
+    pub refused : {why : Refusal} → r ≡ Err why → (l ≡ l₀) × (work ≡ work₀)
+    pub prepared : {p : Prepared} → r ≡ Ok p → PreparedAs s boxes (update s state boxes (tracks_in t state.count) (labels_in t state.count)) state.count i p l work
 
 -- ---- step 5
 
@@ -97,4 +93,4 @@ unfoldable pub pairs_call : Settings → ℕ → ℕ → Inputs → List ℕ →
 pairs_call s kept held l track_labels lent =
     cond (fits kept held (length track_labels) (roomy_for l))
     (within_call (params s kept held) kept held (take (kept * 4) l.corners) (take (held * 4) l.trks) (take held l.confs) (take kept l.scores) (take kept l.labels) (take held track_labels) lent)
-    (Assignments.call_with (answer.Refused TooShort) lent)
+    (Assignments.call_with (Err TooShort) lent)

@@ -6,25 +6,14 @@ use Rattle.labels.specs.Label.{same_label, alike}
 use Rattle.floats.specs.Single.{plus_zero}
 use Rattle.strack.specs.Strack.{predict, get_kf_state, get_kf_covariance_diag}
 use Rattle.boost_tracker_mh_dist.specs.MhDist.{row, reciprocals}
-use Rattle.refusals.specs.declared.refusal.Verdict.{Verdict}
-use Rattle.refusals.specs.declared.refusal.Verdict.TheVariants.{Accepted, Refused}
 use Rattle.boost_tracker_settings.specs.declared.settings.Settings.{Settings}
 use Rattle.boost_tracker_table.specs.Table.{Track, capacity, tracks}
-use Rattle.boost_tracker_table.specs.Lent.{Call, call_with}
-use Rattle.boost_tracker_verdict.specs.declared.refusal.Verdict.{Verdict as FrameVerdict}
-use Rattle.boost_tracker_verdict.specs.declared.refusal.Verdict.TheVariants as frame-verdict
-use Rattle.boost_tracker_verdict.specs.declared.refusal.Refusal.TheVariants.{WorkShort}
 use Rattle.boost_tracker_verdict.specs.Boxes.{Boxes}
 use Rattle.boost_tracker_verdict.specs.Verdict.{boxes_in}
 use Rattle.boost_tracker_pairs.specs.declared.gather.Four.{Four}
-use Rattle.boost_tracker_pairs.specs.declared.boost.Boosted.{Boosted}
 use Rattle.boost_tracker_pairs.specs.declared.pairing.Prepared.{Prepared}
 use Rattle.boost_tracker_pairs.specs.Pairs.{Inputs, PreparedAs}
 use Rattle.boost_tracker_definition.specs.Update.{corners_of, xyxy_of, tracker_at, bboxes, scores, trks, confs, after_dlo, after_duo, remain_inds, det_bboxes, det_scores, det_labels, steps}
-
--- what a stage leaves that accepts its sizes
-abbrev pub accepted : {L : Type 0} → L → Call Verdict L
-accepted l = call_with Accepted l
 
 -- ---- gathering
 
@@ -96,15 +85,6 @@ pub record TrackRoom (held floats counters trks confs : ℕ) : Type 0 where
   pub trks_fit : trks ≡ held * 4
   pub confs_fit : confs ≡ held
 
--- a stage's verdict for the frame: none is refused in an accepted one
-abbrev pub handed_on : Verdict → FrameVerdict
-handed_on Accepted = frame-verdict.Accepted
-handed_on (Refused why) = frame-verdict.Refused WorkShort
-
--- what both boosts leave: the score of one box after the first, and all scores after the second
-abbrev pub boosted_with : Float → List Float → Call Boosted (List Float)
-boosted_with once twice = call_with (record { verdict = Accepted; once = once }) twice
-
 -- ---- the retained boxes
 
 pub record KeptBoxes (thresh : Float) (objects probs corners₀ corners : List Float) (w : ℕ) : Type 0 where
@@ -139,15 +119,15 @@ module _ (self : Settings) (frame : ℕ) (boxes : Boxes) (predicted : List Track
   abbrev pub inds : List ℕ
   inds = remain_inds self.det_thresh twice
 
-  -- after the boosts
-  pub record Raised (held seen : ℕ) (r : Boosted) (corners probs : List Float) (l : TrackLists) : Type 0 where
-    pub raised : call_with r probs ≡ boosted_with (get_or once seen plus_zero) twice
+  -- after the boosts; one is the score of the box that is asked about after the first
+  pub record Raised (held seen : ℕ) (one : Float) (corners probs : List Float) (l : TrackLists) : Type 0 where
+    pub first : one ≡ get_or once seen plus_zero
+    pub raised : probs ≡ twice
     pub corners_are : corners ≡ bboxes boxes.values
     pub read : TracksRead held predicted l
 
   -- before the association, whatever the last id
   pub record Readied (held seen : ℕ) (r : Prepared) (l : Inputs) (work : List Float) : Type 0 where
-    pub accepts : r.verdict ≡ frame-verdict.Accepted
     pub few : r.kept ≤ boxes_in boxes.values
     pub prepared : (last : ℕ) → PreparedAs self boxes (steps same_label self frame last boxes predicted labels) held seen r l work
 

@@ -1,49 +1,35 @@
-// Step 2 of a frame, the boosts of the scores, and the distances that both boosts and the association read. Each stage gives its verdict: the sizes fit, so it is accepted.
+// Step 2 of a frame, the boosts of the scores, and the distances that both boosts and the association read. The sizes fit, so that no stage refuses them.
 // The contract of a distance is of whatever tracks the rows x and sigma are.
-ghost use Rattle.std.specs.Prelude.{◌≡◌, cond, List, length, get_or};
+ghost use Rattle.std.specs.Prelude.{◌≡◌, List, length, get_or};
 ghost use Rattle.laws.specs.Grid.{grid};
 ghost use Rattle.labels.specs.Label.{same_label, alike};
 ghost use Rattle.floats.specs.Single.{plus_zero};
 ghost use Rattle.boost_tracker_mh_dist.specs.MhDist.{get_mh_dist_matrix};
 ghost use Rattle.boost_tracker_table.specs.Table.{Track};
-ghost use Rattle.boost_tracker_table.specs.Lent.{call_with};
 ghost use Rattle.boost_tracker_definition.specs.Update as Update;
 ghost use Rattle.boost_tracker_definition.specs.Update.{tracker_at, dlo_settings};
-ghost use Rattle.boost_tracker_pairs.specs.Private.{accepted, boosted_with, Distant, TrackRoom, States, SinceLow, predicted_in};
+ghost use Rattle.boost_tracker_pairs.specs.Private.{Distant, TrackRoom, States, SinceLow, predicted_in};
 
 use crate::gather::since;
-use assoc::Verdict;
 use boost_tracker_dlo::{DloSettings, dlo_confidence_boost};
 use boost_tracker_duo::duo_confidence_boost;
 use boost_tracker_mh_dist::get_mh_dist_matrix;
 use boost_tracker_seen::score_at;
 use boost_tracker_settings::Settings;
 
-// What both boosts leave is in the scores; beside their verdict stands the score of one box after the first of them.
-#[derive(Drop)]
-pub(crate) struct Boosted {
-    pub verdict: Verdict,
-    pub once: f32,
-}
-
-// The distance of each box to each track, over the front of out: the Rust's get_mh_dist_matrix. Where they are not wanted, as by a DLO boost without the rich similarity, out is left.
+// The distance of each box to each track, over the front of out: the Rust's get_mh_dist_matrix.
 pub(crate) fn mh_dist(
-    wanted: bool,
     held: usize,
     boxes: usize,
     corners: &[f32],
     x: &[f32],
     sigma: &[f32],
     out: &mut [f32],
-) -> Verdict
+)
     requires { Distant boxes held (length corners.now) (length x.now) (length sigma.now) (length out.old) }
-    ensures { (ts : List Track) → States held ts x.now sigma.now → call_with result out.new
-        ≡ accepted (cond wanted (grid (get_mh_dist_matrix corners.now (tracker_at ts)) boxes held out.old) out.old) }
+    ensures { (ts : List Track) → States held ts x.now sigma.now → out.new ≡ grid (get_mh_dist_matrix corners.now (tracker_at ts)) boxes held out.old }
 {
-    if wanted {
-        return get_mh_dist_matrix(boxes, held, corners, x, sigma, out);
-    }
-    Verdict::Accepted
+    get_mh_dist_matrix(boxes, held, corners, x, sigma, out).unwrap();
 }
 
 fn dlo_settings(settings: Settings) -> DloSettings
@@ -59,6 +45,7 @@ fn dlo_settings(settings: Settings) -> DloSettings
     }
 }
 
+// Kept: what Distant, TrackRoom and SinceLow say is of slices that are lent from work memory, some of them `&mut`: a struct of them needs a clause for each wherever it is lent on.
 fn dlo(
     settings: Settings,
     floats: &[f32],
@@ -73,23 +60,21 @@ fn dlo(
     track_labels: &[u8],
     work: &mut [f32],
     scores: &mut [f32],
-) -> Verdict
+)
     requires sizes { Distant (length scores.old) held (length corners.now) (length x.now) (length sigma.now) (length work.old) }
     requires tracks { TrackRoom held (length floats.now) (length counters.now) (length trks.now) (length confs.now) }
     requires low { SinceLow held (predicted_in floats.now counters.now held) }
-    ensures { let ts = predicted_in floats.now counters.now held in States held ts x.now sigma.now → call_with result scores.new
-        ≡ accepted (Update.after_dlo (alike same_label box_labels.now track_labels.now) settings corners.now trks.now confs.now ts scores.old) }
+    ensures { let ts = predicted_in floats.now counters.now held in States held ts x.now sigma.now
+        → scores.new ≡ Update.after_dlo (alike same_label box_labels.now track_labels.now) settings corners.now trks.now confs.now ts scores.old }
 {
     if settings.use_dlo_boost & (held > 0) {
         let boxes = scores.len();
-        let rich = settings.use_rich_similarity;
-        let distances = mh_dist(rich, held, boxes, corners, x, sigma, work);
-        let Verdict::Accepted = distances else {
-            return distances;
-        };
+        if settings.use_rich_similarity {
+            mh_dist(held, boxes, corners, x, sigma, work);
+        }
         let mut times = [0u32; 255];
         since(floats, counters, held, &mut times[..held]);
-        return dlo_confidence_boost(
+        dlo_confidence_boost(
             dlo_settings(settings),
             boxes,
             held,
@@ -101,9 +86,9 @@ fn dlo(
             track_labels,
             work,
             scores,
-        );
+        )
+        .unwrap();
     }
-    Verdict::Accepted
 }
 
 fn duo(
@@ -115,31 +100,19 @@ fn duo(
     sigma: &[f32],
     work: &mut [f32],
     scores: &mut [f32],
-) -> Verdict
+)
     requires { Distant (length scores.old) held (length corners.now) (length x.now) (length sigma.now) (length work.old) }
-    ensures { (ts : List Track) → States held ts x.now sigma.now → call_with result scores.new
-        ≡ accepted (Update.after_duo settings frame corners.now ts scores.old) }
+    ensures { (ts : List Track) → States held ts x.now sigma.now → scores.new ≡ Update.after_duo settings frame corners.now ts scores.old }
 {
     if settings.use_duo_boost & (held > 0) {
         let boxes = scores.len();
-        let distances = mh_dist(true, held, boxes, corners, x, sigma, work);
-        let Verdict::Accepted = distances else {
-            return distances;
-        };
-        return duo_confidence_boost(
-            frame,
-            settings.det_thresh,
-            boxes,
-            held,
-            corners,
-            work,
-            scores,
-        );
+        mh_dist(held, boxes, corners, x, sigma, work);
+        let thresh = settings.det_thresh;
+        duo_confidence_boost(frame, thresh, boxes, held, corners, work, scores).unwrap();
     }
-    Verdict::Accepted
 }
 
-// Both boosts. Each stores its distances over the front of work. `seen` is the box whose score after the DLO boost is handed back.
+// Both boosts. Each stores its distances over the front of work. What they leave is in the scores; the score of the box `seen` after the DLO boost is handed back.
 pub(crate) fn boost(
     settings: Settings,
     frame: u64,
@@ -156,15 +129,15 @@ pub(crate) fn boost(
     seen: usize,
     work: &mut [f32],
     scores: &mut [f32],
-) -> Boosted
+) -> f32
     requires sizes { Distant (length scores.old) held (length corners.now) (length x.now) (length sigma.now) (length work.old) }
     requires tracks { TrackRoom held (length floats.now) (length counters.now) (length trks.now) (length confs.now) }
     requires low { SinceLow held (predicted_in floats.now counters.now held) }
     ensures { let ts = predicted_in floats.now counters.now held in States held ts x.now sigma.now →
         (let once = Update.after_dlo (alike same_label box_labels.now track_labels.now) settings corners.now trks.now confs.now ts scores.old in
-        call_with result scores.new ≡ boosted_with (get_or once seen plus_zero) (Update.after_duo settings frame corners.now ts once)) }
+        (result ≡ get_or once seen plus_zero) × (scores.new ≡ Update.after_duo settings frame corners.now ts once)) }
 {
-    let first = dlo(
+    dlo(
         settings,
         floats,
         counters,
@@ -179,16 +152,7 @@ pub(crate) fn boost(
         work,
         scores,
     );
-    let Verdict::Accepted = first else {
-        return Boosted {
-            verdict: first,
-            once: 0.0,
-        };
-    };
     let once = score_at(scores, seen);
-    let second = duo(settings, frame, held, corners, x, sigma, work, scores);
-    Boosted {
-        verdict: second,
-        once,
-    }
+    duo(settings, frame, held, corners, x, sigma, work, scores);
+    once
 }

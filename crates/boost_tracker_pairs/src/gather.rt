@@ -96,13 +96,9 @@ pub(crate) fn bboxes(objects: &[f32], corners: &mut [f32])
     requires { length corners.old ≡ boxes_in objects.now * 4 }
     ensures { corners.new ≡ Update.bboxes objects.now }
 {
-    let n = objects.len() / BOX_VALUES;
-    let mut at = 0;
-    let mut i = 0;
-    while i < n {
+    for i in 0..objects.len() / BOX_VALUES {
+        let at = i * 4;
         put_four(&mut corners[at..at + 4], of_corners(xyxy_of(objects, i)));
-        at += 4;
-        i += 1;
     }
 }
 
@@ -110,10 +106,8 @@ pub(crate) fn scores(objects: &[f32], out: &mut [f32])
     requires { length out.old ≡ boxes_in objects.now }
     ensures { out.new ≡ Update.scores objects.now }
 {
-    let mut i = 0;
-    while i < out.len() {
-        out[i] = objects[i * BOX_VALUES + 4];
-        i += 1;
+    for (i, score) in out.iter_mut().enumerate() {
+        *score = objects[i * BOX_VALUES + 4];
     }
 }
 
@@ -164,9 +158,8 @@ fn gather_tracks(
     requires room { held ≤ capacity (length floats.now) (length counters.now) }
     ensures { TracksRead held (predicted_in floats.now counters.now held) (track_lists_with trks.new confs.new x.new sigma.new) }
 {
-    let mut at = 0;
-    let mut j = 0;
-    while j < held {
+    for j in 0..held {
+        let at = j * 4;
         let t = predicted(floats, counters, held, j);
         put_track(
             t,
@@ -176,8 +169,6 @@ fn gather_tracks(
             &mut sigma[at..at + 4],
             confs,
         );
-        at += 4;
-        j += 1;
     }
 }
 
@@ -218,10 +209,8 @@ pub(crate) fn since(floats: &[f32], counters: &[u64], held: usize, out: &mut [u3
     requires low { SinceLow held (predicted_in floats.now counters.now held) }
     ensures { out.new ≡ since_of (predicted_in floats.now counters.now held) }
 {
-    let mut j = 0;
-    while j < held {
+    for j in 0..held {
         let time = since_at(floats, counters, held, j);
         out[j] = time as u32;
-        j += 1;
     }
 }

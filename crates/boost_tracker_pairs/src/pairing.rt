@@ -9,21 +9,19 @@ ghost use Rattle.boost_tracker_verdict.specs.Verdict.{boxes_in};
 ghost use Rattle.boost_tracker_definition.specs.Update as Update;
 ghost use Rattle.boost_tracker_pairs.specs.Pairs as Pairs;
 ghost use Rattle.boost_tracker_pairs.specs.Pairs.{inputs_with, roomy_for, PrepareCall, pairs_call};
-ghost use Rattle.boost_tracker_pairs.specs.Private.{LocalRoom, StateRoom, SinceLow, Room, Raised, Readied, handed_on, predicted_in, track_lists_with};
+ghost use Rattle.boost_tracker_pairs.specs.Private.{LocalRoom, StateRoom, SinceLow, Room, Raised, Readied, predicted_in, track_lists_with};
 
-use crate::boost::{Boosted, boost, mh_dist};
+use crate::boost::{boost, mh_dist};
 use crate::gather::gather;
 use crate::retain::retain;
-use assoc::{AssignmentAnswer, AssociateParams};
+use assoc::{AssignmentCounts, AssociateParams};
 use boost_tracker_seen::{Seen, seen_in};
 use boost_tracker_settings::Settings;
-use boost_tracker_verdict::{Refusal, State, Verdict};
+use boost_tracker_verdict::{Refusal, State};
 use records::BOX_VALUES;
 
-// All but the verdict is 0 where the frame is refused.
 #[derive(Drop)]
 pub struct Prepared {
-    pub verdict: Verdict,
     // retained boxes
     pub kept: usize,
     pub seen: Seen,
@@ -56,7 +54,7 @@ fn raise(
     x: &mut [f32],
     sigma: &mut [f32],
     work32: &mut [f32],
-) -> Boosted
+) -> f32
     requires sizes { Room held (boxes_in objects.now) (length floats.now) (length counters.now) (boxes_in objects.now) (length work32.old) }
     requires low { SinceLow held (predicted_in floats.now counters.now held) }
     requires lent { LocalRoom held (boxes_in objects.now) (length corners.old) (length scores.old) (length trks.old) (length confs.old) × StateRoom held (length x.old) (length sigma.old) }
@@ -70,30 +68,6 @@ fn raise(
         settings, frame, floats, counters, held, corners, trks, confs, x, sigma, box_labels,
         labels, seen, work32, scores,
     )
-}
-
-// A stage's verdict for the frame: none is refused in an accepted one, as the sizes fit.
-fn handed_on(verdict: assoc::Verdict) -> Verdict
-    ensures { result ≡ handed_on verdict }
-{
-    match verdict {
-        assoc::Verdict::Accepted => Verdict::Accepted,
-        assoc::Verdict::Refused(_) => Verdict::Refused(Refusal::WorkShort),
-    }
-}
-
-fn unprepared(verdict: Verdict) -> Prepared
-    ensures { result ≡ Pairs.unprepared verdict }
-{
-    Prepared {
-        verdict,
-        kept: 0,
-        seen: Seen {
-            once: 0.0,
-            twice: 0.0,
-            before: 0,
-        },
-    }
 }
 
 // In lists for the boxes and the tracks that there are.
@@ -122,15 +96,11 @@ fn prepare_with(
     ensures { Readied settings frame (boxes_with objects.now box_labels.now) (predicted_in floats.now counters.now held) labels.now held seen result
         (inputs_with corners.new kept_labels.new scores.new trks.new confs.new) work32.new }
 {
-    let boosted = raise(
+    let once = raise(
         settings, frame, held, floats, counters, labels, objects, box_labels, seen, corners,
         scores, trks, confs, x, sigma, work32,
     );
-    let verdict = boosted.verdict;
-    let assoc::Verdict::Accepted = verdict else {
-        return unprepared(handed_on(verdict));
-    };
-    let asked = seen_in(settings.det_thresh, boosted.once, scores, seen);
+    let asked = seen_in(settings.det_thresh, once, scores, seen);
     let kept = retain(
         settings.det_thresh,
         objects,
@@ -140,12 +110,8 @@ fn prepare_with(
         kept_labels,
     );
     let end = kept * 4;
-    let distances = mh_dist(true, held, kept, &corners[..end], x, sigma, work32);
-    Prepared {
-        verdict: handed_on(distances),
-        kept,
-        seen: asked,
-    }
+    mh_dist(held, kept, &corners[..end], x, sigma, work32);
+    Prepared { kept, seen: asked }
 }
 
 // In the fronts of lists that have room for any.
@@ -220,12 +186,12 @@ pub fn prepare(
     trks: &mut [f32],
     confs: &mut [f32],
     work32: &mut [f32],
-) -> Prepared
+) -> Result<Prepared, Refusal>
     ensures { PrepareCall settings state (boxes_with boxes.now box_labels.now) (table_with floats.now counters.now labels.now) room work64 seen
         (inputs_with corners.old kept_labels.old scores.old trks.old confs.old) work32.old result
         (inputs_with corners.new kept_labels.new scores.new trks.new confs.new) work32.new }
 {
-    let verdict = boost_tracker_verdict::frame_verdict(
+    boost_tracker_verdict::frame_verdict(
         settings,
         state,
         floats,
@@ -236,10 +202,7 @@ pub fn prepare(
         room,
         work64,
         work32.len(),
-    );
-    let Verdict::Accepted = verdict else {
-        return unprepared(verdict);
-    };
+    )?;
     if !roomy(
         corners.len(),
         kept_labels.len(),
@@ -247,9 +210,9 @@ pub fn prepare(
         trks.len(),
         confs.len(),
     ) {
-        return unprepared(Verdict::Refused(Refusal::WorkShort));
+        return Err(Refusal::WorkShort);
     }
-    prepare_fronts(
+    Ok(prepare_fronts(
         settings,
         state,
         floats,
@@ -264,7 +227,7 @@ pub fn prepare(
         trks,
         confs,
         work32,
-    )
+    ))
 }
 
 // ---- step 5
@@ -307,7 +270,7 @@ pub fn pairs(
     left: &mut [usize],
     work64: &mut [f64],
     work32: &mut [f32],
-) -> AssignmentAnswer
+) -> Result<AssignmentCounts, assoc::Refusal>
     ensures { Assignments.call_with result (Association.lent_with pair_boxes.new pair_tracks.new unmatched.new left.new work64.new work32.new)
         ≡ pairs_call settings kept held (inputs_with corners.now kept_labels.now scores.now trks.now confs.now) labels.now
         (Association.lent_with pair_boxes.old pair_tracks.old unmatched.old left.old work64.old work32.old) }
@@ -320,7 +283,7 @@ pub fn pairs(
         confs.len(),
     );
     if !fits(kept, held, labels.len(), lists) {
-        return AssignmentAnswer::Refused(assoc::Refusal::TooShort);
+        return Err(assoc::Refusal::TooShort);
     }
     let of_boxes = kept * 4;
     let of_tracks = held * 4;

@@ -38,10 +38,8 @@ fn retain_boxes(thresh: f32, objects: &[f32], scores: &[f32], corners: &mut [f32
     ensures { KeptBoxes thresh objects.now scores.now corners.old corners.new result }
 {
     let mut w = 0;
-    let mut i = 0;
-    while i < scores.len() {
+    for i in 0..scores.len() {
         w = keep_box(thresh, scores[i], objects, i, w, corners);
-        i += 1;
     }
     w
 }
@@ -63,12 +61,9 @@ fn keep_score(thresh: f32, i: usize, w: usize, scores: &mut [f32]) -> usize
 fn retain_scores(thresh: f32, scores: &mut [f32]) -> usize
     ensures { Pushed scores.old (det_scores scores.old (remain_inds thresh scores.old)) result scores.new }
 {
-    let n = scores.len();
     let mut w = 0;
-    let mut i = 0;
-    while i < n {
+    for i in 0..scores.len() {
         w = keep_score(thresh, i, w, scores);
-        i += 1;
     }
     w
 }
@@ -91,11 +86,9 @@ fn retain_labels(thresh: f32, scores: &[f32], box_labels: &[u8], out: &mut [u8])
     ensures { Pushed out.old (det_labels box_labels.now (remain_inds thresh scores.now)) result out.new }
 {
     let mut w = 0;
-    let mut i = 0;
-    while i < scores.len() {
+    for i in 0..scores.len() {
         let label = labels::label_at(box_labels, i);
         w = keep_label(thresh, scores[i], label, w, out);
-        i += 1;
     }
     w
 }

@@ -1,25 +1,35 @@
--- The boxes before one that are retained: what the loop knows and leaves. Assumes nothing.
-use Rattle.std.proofs.Common.{◌≡◌, ℕ, ◌+◌, ◌<◌, ◌≤◌, min, List, length, ap, ◌∙◌, zero-le, arith}
-use lib.Ieee.{Float}
-use Rattle.laws.specs.Count.{bit, count_where, count_none, count-more, count-few}
+-- The retained boxes among the first are counted as the definition does. Assumes nothing.
+use Rattle.std.proofs.Common.{◌≡◌, ℕ, zero, suc, ◌≤◌, min, Bool, true, false, cond, List, length, take, refl, sym, ◌∙◌, add-one, arith, ltb}
+use Rattle.std.specs.List.{filter}
+use Rattle.std.proofs.lemmas.List.Filters.{length-filter_more}
+use lib.Ieee.{Float, nan, le}
+use lib.Seq.{take_all}
+use borrow.Author.Tests.{ltb-true, ltb-false}
+use Rattle.laws.specs.Count.{bit, count_where}
 use Rattle.boost_tracker_definition.specs.Update.{remains}
 use Rattle.boost_tracker_seen.specs.Seen.{remain_before}
 
-pub record Counting (thresh : Float) (l : List Float) (n k w : ℕ) : Type 0 where
-  pub upto : k ≤ n
-  pub count : w ≡ count_where (remains thresh l) k
+as_bit : (b : Bool) → cond b 1 0 ≡ bit b
+as_bit true = refl
+as_bit false = refl
 
-module _ (thresh : Float) (l : List Float) (n : ℕ) where
-  pub count-start : Counting thresh l n 0 0
-  count-start = record { upto = zero-le; count = count_none (remains thresh l) }
+module _ (thresh : Float) (l : List Float) where
+  front-counted : (n : ℕ) → n ≤ length l → length (filter (le thresh) (take n l)) ≡ count_where (remains thresh l) n
+  unfolding count_where
+  front-counted zero h = refl
+  front-counted (suc n) h =
+      let more = length-filter_more (le thresh) l n nan h in
+      let before = front-counted n (omega arith) in
+      rw add-one at more ∙ rw (before, as_bit)
 
-  module _ {k w : ℕ} (s : Counting thresh l n k w) where
-    pub count-below : w ≤ k
-    count-below = rw s.count (count-few (remains thresh l) k)
-
-    pub count-on : {w' : ℕ} → k < n → w' ≡ w + bit (remains thresh l k) → Counting thresh l n (k + 1) w'
-    count-on {w'} h e = record { upto = omega arith; count = e ∙ ap (λ (v : ℕ). v + bit (remains thresh l k)) s.count ∙ count-more (remains thresh l) k }
-
-    pub count-end : (i : ℕ) → n ≤ k → n ≡ min i (length l) → w ≡ remain_before thresh l i
-    unfolding remain_before
-    count-end i h e = let k-is : k ≡ n = let u = s.upto in omega arith in s.count ∙ ap (count_where (remains thresh l)) (k-is ∙ e)
+  pub retained-counted : (i : ℕ) → length (filter (le thresh) (take i l)) ≡ remain_before thresh l i
+  unfolding remain_before
+  retained-counted i = by_cases (ltb i (length l)) refl
+    where
+      by_cases : (b : Bool) → ltb i (length l) ≡ b → length (filter (le thresh) (take i l)) ≡ count_where (remains thresh l) (min i (length l))
+      by_cases true e = let h = ltb-true i (length l) e in let q : min i (length l) ≡ i = omega (arith, h) in rw q (front-counted i (omega (arith, h)))
+      by_cases false e =
+          let h = ltb-false i (length l) e in
+          let q : min i (length l) ≡ length l = omega (arith, h) in
+          let all : take i l ≡ take (length l) l = take_all i l h ∙ sym (take_all (length l) l (omega arith)) in
+          rw (q, all) (front-counted (length l) (omega arith))

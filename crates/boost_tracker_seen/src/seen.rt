@@ -1,16 +1,13 @@
 // What is told of one box of a frame by the scores after the boosts, and the time since update of a predicted track.
-ghost use Rattle.std.specs.Prelude.{◌≡◌, ◌+◌, ◌<◌, ◌≤◌, length, slice_index_or};
-ghost use Rattle.laws.specs.Count.{bit};
+ghost use Rattle.std.specs.Prelude.{◌≡◌, slice_index_or};
 ghost use Rattle.floats.specs.Single.{plus_zero};
 ghost use Rattle.strack.specs.Strack.{predict};
-ghost use Rattle.boost_tracker_definition.specs.Update.{remains};
 ghost use Rattle.boost_tracker_seen.specs.Seen.{remain_before, seen_with};
 
-use refusals::smaller;
 use strack::strack::KalmanBoxTracker;
 
 // What the steps say of one box that the caller asks about.
-#[derive(Drop)]
+#[derive(Clone, Copy)]
 pub struct Seen {
     // its score after the DLO boost, and after the DUO boost
     pub once: f32,
@@ -23,34 +20,18 @@ pub struct Seen {
 pub fn score_at(scores: &[f32], i: usize) -> f32
     ensures { result ≡ slice_index_or scores.now i plus_zero }
 {
-    if i < scores.len() {
-        return scores[i];
-    }
-    0.0
-}
-
-fn count_retained(thresh: f32, scores: &[f32], k: usize, w: usize) -> usize
-    requires { (w ≤ k) × (k < length scores.now) }
-    ensures { result ≡ w + bit (remains thresh scores.now k) }
-{
-    if scores[k] >= thresh {
-        return w + 1;
-    }
-    w
+    scores.get(i).copied().unwrap_or(0.0)
 }
 
 // How many of the first i boxes are retained.
 fn retained_before(thresh: f32, scores: &[f32], i: usize) -> usize
     ensures { result ≡ remain_before thresh scores.now i }
 {
-    let n = smaller(i, scores.len());
-    let mut w = 0;
-    let mut k = 0;
-    while k < n {
-        w = count_retained(thresh, scores, k, w);
-        k += 1;
-    }
-    w
+    scores
+        .iter()
+        .take(i)
+        .filter(|&&score| score >= thresh)
+        .count()
 }
 
 // Of the box that is asked about, by the scores after both boosts.
@@ -70,5 +51,5 @@ pub fn seen_in(thresh: f32, once: f32, scores: &[f32], seen: usize) -> Seen
 pub fn since_predicted(t: KalmanBoxTracker) -> u64
     ensures { result ≡ (predict t).since }
 {
-    std::num::wrapping_add_u64(t.since, 1)
+    t.since.wrapping_add(1)
 }

@@ -1,7 +1,8 @@
-// The settings of a tracker, boost_tracker.rs: `new` and the `with_` options but ECC's, and cap_confidence, which the Rust does not have. Each returns the settings that it changed.
+// The settings of a tracker. Each `with_` option returns the settings that it changed.
 ghost use Rattle.std.specs.Prelude.{◌≡◌};
 ghost use Rattle.boost_tracker_settings.specs.Settings.{new as new_settings, with_lambdas, with_boost, with_boost_plus, with_boost_plus_plus, with_shape_similarity_v1, with_cap_confidence};
 
+// Kept: C fills it in, a byte for each option, as bedside.h's bedside_settings.
 #[repr(C)]
 #[derive(Clone, Copy)]
 pub struct Settings {
@@ -70,6 +71,7 @@ impl Settings {
         self
     }
 
+    #[tactic(auto, unfolding(crate::specs::Settings::with_boost_plus_plus))]
     pub fn with_boost_plus_plus(mut self) -> Settings
         ensures { result ≡ with_boost_plus_plus self }
     {

@@ -10,14 +10,12 @@ use Rattle.laws.specs.Over.{over}
 use Rattle.strack.specs.Strack.{predict}
 use Rattle.refusals.specs.declared.refusal.Refusal.{Refusal as StageRefusal}
 use Rattle.assoc_assignment.specs.declared.assignment.AssignmentCounts.{AssignmentCounts}
-use Rattle.assoc_assignment.specs.declared.assignment.AssignmentAnswer.{AssignmentAnswer}
-use Rattle.assoc_assignment.specs.declared.assignment.AssignmentAnswer.TheVariants.{Assigned, Refused as Unassigned}
+use Rattle.std.specs.Bool.{⊤}
+use Rattle.std.proofs.Common.{Result, Ok, Err}
 use Rattle.assoc_matching.specs.Matching.{boxes_of}
 use Rattle.assoc_assignment.specs.Answers as Answers
 use Rattle.assoc.specs.Answers.{Lent}
 use Rattle.boost_tracker_verdict.specs.declared.refusal.Refusal.{Refusal}
-use Rattle.boost_tracker_verdict.specs.declared.refusal.Verdict.{Verdict}
-use Rattle.boost_tracker_verdict.specs.declared.refusal.Verdict.TheVariants.{Accepted, Refused}
 use Rattle.boost_tracker_settings.specs.declared.settings.Settings.{Settings}
 use Rattle.boost_tracker_verdict.specs.declared.sound.State.{State}
 use Rattle.boost_tracker_table.specs.Table.{Track, places_in, tracks, Laying}
@@ -34,39 +32,39 @@ use Rattle.boost_tracker_follow.specs.Corrections.{Listed, tracks_after, labels_
 use Rattle.boost_tracker_follow.proofs.FitLaws.{FollowRoom}
 use Rattle.boost_tracker_follow.proofs.FollowLaws.{followed-is}
 use Rattle.boost_tracker_pairs.specs.declared.pairing.Prepared.{Prepared}
-use Rattle.boost_tracker_pairs.specs.Pairs.{Inputs, roomy_for, PreparedAs, PrepareCall, pairs_call}
+use Rattle.boost_tracker_pairs.specs.Pairs.{Inputs, roomy_for, PreparedAs, verdict_in, PrepareCall, pairs_call}
 use Rattle.boost_tracker_pairs.proofs.EndLaws as Ends
 use Rattle.boost_tracker_pairs.proofs.EndLaws.{verdict-is, no_pairs, room_for_pairs, Found}
 use Rattle.boost_tracker_steps.specs.declared.all_steps.Advanced.{Advanced}
-use Rattle.boost_tracker_steps.specs.AllSteps.{refused_advance, lent_with, advanced}
+use Rattle.boost_tracker_steps.specs.AllSteps.{lent_with, advanced}
 use Rattle.boost_tracker_steps.specs.Private.{answered, predicted_floats, predicted_counters, settled, Concluded}
 
 -- ---- steps 6 and 7
 
-module _ (state : State) (corners : List Float) (labels pair_boxes pair_tracks unmatched : List ℕ) (f : List Float) (c n : List ℕ) {q : AssignmentAnswer} {a : Advanced} where
-  pub unsettled : {why : StageRefusal} → q ≡ Unassigned why → a ≡ answered q → call_with a (table_with f c n) ≡ settled state corners labels pair_boxes pair_tracks unmatched (table_with f c n) q
+module _ (state : State) (corners : List Float) (labels pair_boxes pair_tracks unmatched : List ℕ) (f : List Float) (c n : List ℕ) {q : Result AssignmentCounts StageRefusal} {a : Result Advanced Refusal} where
+  pub unsettled : {why : StageRefusal} → q ≡ Err why → a ≡ answered q → call_with a (table_with f c n) ≡ settled state corners labels pair_boxes pair_tracks unmatched (table_with f c n) q
   unsettled e h = rw (h, e)
 
-  pub settled_is : {counts : AssignmentCounts} {f₁ : List Float} {c₁ : List ℕ} {x : AssignmentAnswer} {t : Table} → q ≡ Assigned counts → Laying f c f₁ c₁ (map predict (tracks f c state.count))
+  pub settled_is : {counts : AssignmentCounts} {f₁ : List Float} {c₁ : List ℕ} {x : Result AssignmentCounts StageRefusal} {t : Table} → q ≡ Ok counts → Laying f c f₁ c₁ (map predict (tracks f c state.count))
       → call_with x t ≡ followed state.count state.last corners labels counts pair_boxes pair_tracks unmatched (table_with f₁ c₁ n) → a ≡ answered x
       → call_with a t ≡ settled state corners labels pair_boxes pair_tracks unmatched (table_with f c n) q
-  settled_is e lays v h = rw (e, h) (ap (λ (k : Call AssignmentAnswer Table). call_with (answered k.answer) k.lent) (rw (lays.floats, lays.counters) at v))
+  settled_is e lays v h = rw (e, h) (ap (λ (k : Call (Result AssignmentCounts StageRefusal) Table). call_with (answered k.answer) k.lent) (rw (lays.floats, lays.counters) at v))
 
 -- ---- steps 1 to 7
 
-module _ (s : Settings) (state : State) (f : List Float) (c n : List ℕ) (boxes : Boxes) (room : ℕ) (work64 work32 : List Float) {l₀ : Inputs} {p : Prepared} {l : Inputs} {work : List Float}
-    (roomy₀ : roomy_for l₀ ≡ true) (w : PrepareCall s state boxes (table_with f c n) room (length work64) 0 l₀ work32 p l work) where
+module _ (s : Settings) (state : State) (f : List Float) (c n : List ℕ) (boxes : Boxes) (room : ℕ) (work64 work32 : List Float) {l₀ : Inputs} {q : Result Prepared Refusal} {l : Inputs} {work : List Float}
+    (roomy₀ : roomy_for l₀ ≡ true) (w : PrepareCall s state boxes (table_with f c n) room (length work64) 0 l₀ work32 q l work) where
   abbrev table : Table
   table = table_with f c n
 
   -- a refused call changes nothing
-  pub advance_refused : {why : Refusal} {r : Advanced} → p.verdict ≡ Refused why → r ≡ refused_advance p.verdict → call_with r (lent_with f c n work64 work) ≡ advanced s state boxes room (lent_with f c n work64 work32)
+  pub advance_refused : {why : Refusal} → q ≡ Err why → call_with (Err why) (lent_with f c n work64 work) ≡ advanced s state boxes room (lent_with f c n work64 work32)
   unfolding advanced
-  advance_refused {why} {r} h a = rw (sym (verdict-is roomy₀ w) ∙ h, a, h, (w.refused h).2)
+  advance_refused {why} h = rw (sym (verdict-is roomy₀ w) ∙ ap verdict_in h, (w.refused h).1)
 
-  module _ (h : p.verdict ≡ Accepted) where
-    pub accepts : verdict s state table boxes room (length work64) (length work32) ≡ Accepted
-    accepts = sym (verdict-is roomy₀ w) ∙ h
+  module _ {p : Prepared} (h : q ≡ Ok p) where
+    pub accepts : verdict s state table boxes room (length work64) (length work32) ≡ Ok tt
+    accepts = sym (verdict-is roomy₀ w) ∙ ap verdict_in h
 
     knows : Ready s state table boxes room (length work64) (length work32)
     knows = ready s state table boxes room (length work64) (length work32) accepts
@@ -88,12 +86,12 @@ module _ (s : Settings) (state : State) (f : List Float) (c n : List ℕ) (boxes
     kept_few = Ends.kept_few s state table boxes room (length work64) (length work32) accepts prepared
 
     -- step 5 of what was prepared
-    module _ (fit : roomy_for l ≡ true) (same : length work ≡ length work32) (r : AssignmentAnswer) {l' : Lent}
+    module _ (fit : roomy_for l ≡ true) (same : length work ≡ length work32) (r : Result AssignmentCounts StageRefusal) {l' : Lent}
         (call : Answers.call_with r l' ≡ pairs_call s p.kept state.count l n (record { lists = no_pairs; work64 = work64; work32 = work })) where
-      pub always-paired : {why : StageRefusal} → r ≡ Unassigned why → ⊥
+      pub always-paired : {why : StageRefusal} → r ≡ Err why → ⊥
       always-paired e = Ends.never_refused s state table boxes room (length work64) (length work32) accepts prepared no_pairs work64 fit refl same room_for_pairs r call e
 
-      pub pairs-found : {counts : AssignmentCounts} → r ≡ Assigned counts → Found g work64 work32 counts l'
+      pub pairs-found : {counts : AssignmentCounts} → r ≡ Ok counts → Found g work64 work32 counts l'
       pairs-found e = Ends.found-is s state table boxes room (length work64) (length work32) accepts prepared no_pairs work64 fit refl same room_for_pairs r call work32 refl e
 
     -- with the pairs found
@@ -149,7 +147,7 @@ module _ (s : Settings) (state : State) (f : List Float) (c n : List ℕ) (boxes
         abbrev kept : List ℕ
         kept = take p.kept l.labels
 
-        abbrev followed_call : Call AssignmentAnswer Table
+        abbrev followed_call : Call (Result AssignmentCounts StageRefusal) Table
         followed_call = followed state.count state.last corners kept counts l'.lists.pair_boxes l'.lists.pair_tracks l'.lists.unmatched_detections (table_with f₁ c₁ n)
 
         all_are : tracks_after state.count state.last corners (take counts.pairs l'.lists.pair_boxes) (take counts.pairs l'.lists.pair_tracks) (take counts.detections l'.lists.unmatched_detections) (table_with f₁ c₁ n)
@@ -168,25 +166,25 @@ module _ (s : Settings) (state : State) (f : List Float) (c n : List ℕ) (boxes
         unfolding labels_started started_labels
         labels_are = rw (prepared.labels_are, found.unmatched_are)
 
-        follows : followed_call ≡ call_with (Assigned counts) (laid_over g.started.trackers (labels_started boxes.labels L g) (table_with f₁ c₁ n))
+        follows : followed_call ≡ call_with (Ok counts) (laid_over g.started.trackers (labels_started boxes.labels L g) (table_with f₁ c₁ n))
         follows =
             followed-is state.count state.last corners kept counts l'.lists.pair_boxes l'.lists.pair_tracks l'.lists.unmatched_detections f₁ c₁ n follow-room pairs-listed unmatched-listed
             ∙ rw (all_are, labels_are)
 
-        advance_done : {a : Advanced} {f₂ : List Float} {c₂ n₂ : List ℕ} → call_with a (table_with f₂ c₂ n₂) ≡ call_with (answered followed_call.answer) followed_call.lent
+        advance_done : {a : Result Advanced Refusal} {f₂ : List Float} {c₂ n₂ : List ℕ} → call_with a (table_with f₂ c₂ n₂) ≡ call_with (answered followed_call.answer) followed_call.lent
             → call_with a (lent_with f₂ c₂ n₂ l'.work64 l'.work32) ≡ advanced s state boxes room (lent_with f c n work64 work32)
         unfolding advanced
         advance_done {a} {f₂} {c₂} {n₂} v =
-            let e : call_with a (table_with f₂ c₂ n₂) ≡ call_with (answered (Assigned counts)) (laid_over g.started.trackers (labels_started boxes.labels L g) (table_with f₁ c₁ n)) =
-            v ∙ ap (λ (k : Call AssignmentAnswer Table). call_with (answered k.answer) k.lent) follows in
-            let said : a ≡ answered (Assigned counts) = ap (λ (k : Call Advanced Table). k.answer) e in
+            let e : call_with a (table_with f₂ c₂ n₂) ≡ call_with (answered (Ok counts)) (laid_over g.started.trackers (labels_started boxes.labels L g) (table_with f₁ c₁ n)) =
+            v ∙ ap (λ (k : Call (Result AssignmentCounts StageRefusal) Table). call_with (answered k.answer) k.lent) follows in
+            let said : a ≡ answered (Ok counts) = ap (λ (k : Call (Result Advanced Refusal) Table). k.answer) e in
             let facts = frame_facts s state table boxes room (length work64) (length work32) accepts in
             let many : length g.started.trackers ≡ state.count + length g.result.unmatched_detections = facts.many ∙ rw knows.many in
             let longer : length (map predict T) ≤ length g.started.trackers = rw (predicted-many, many) (omega arith) in
             let left : Laying f₁ c₁ f₂ c₂ g.started.trackers =
-            record { floats = ap (λ (k : Call Advanced Table). k.lent.floats) e; counters = ap (λ (k : Call Advanced Table). k.lent.counters) e } in
+            record { floats = ap (λ (k : Call (Result Advanced Refusal) Table). k.lent.floats) e; counters = ap (λ (k : Call (Result Advanced Refusal) Table). k.lent.counters) e } in
             let all : Laying f c f₂ c₂ g.started.trackers = lay_lay predicted left longer in
-            let named : n₂ ≡ over (labels_started boxes.labels L g) n = ap (λ (k : Call Advanced Table). k.lent.labels) e in
+            let named : n₂ ≡ over (labels_started boxes.labels L g) n = ap (λ (k : Call (Result Advanced Refusal) Table). k.lent.labels) e in
             rw (
               accepts,
               said,
@@ -208,32 +206,21 @@ module _ (s : Settings) (state : State) (f : List Float) (c n : List ℕ) (boxes
     -- steps 5 to 7 of what was prepared
     module _ (fit : roomy_for l ≡ true) (same : length work ≡ length work32) {l' : Lent} (pair-boxes : length l'.lists.pair_boxes ≡ 255) (pair-tracks : length l'.lists.pair_tracks ≡ 255)
         (unmatched : length l'.lists.unmatched_detections ≡ 255) where
-      pub concluded_is : (r : AssignmentAnswer) {a : Advanced} {f₂ : List Float} {c₂ n₂ : List ℕ}
+      pub concluded_is : (r : Result AssignmentCounts StageRefusal) {a : Result Advanced Refusal} {f₂ : List Float} {c₂ n₂ : List ℕ}
           → Answers.call_with r l' ≡ pairs_call s p.kept state.count l n (record { lists = no_pairs; work64 = work64; work32 = work })
           → call_with a (table_with f₂ c₂ n₂) ≡ settled state (take (p.kept * 4) l.corners) (take p.kept l.labels) l'.lists.pair_boxes l'.lists.pair_tracks l'.lists.unmatched_detections table r
           → call_with a (lent_with f₂ c₂ n₂ l'.work64 l'.work32) ≡ advanced s state boxes room (lent_with f c n work64 work32)
-      concluded_is (Assigned counts) call v =
-          advance_done (pairs-found fit same (Assigned counts) call refl) predicted same_lengths.0 same_lengths.1 pair-boxes pair-tracks unmatched v
-      concluded_is (Unassigned why) call v = absurd (always-paired fit same (Unassigned why) call refl)
-
-  -- also of a refused frame
-  pub kept_low : p.kept ≤ 255
-  kept_low = by_cases p.verdict refl
-    where
-      by_cases : (v : Verdict) → p.verdict ≡ v → p.kept ≤ 255
-      by_cases Accepted h = kept_few h
-      by_cases (Refused why) h = let none : p.kept ≡ 0 = ap (λ (q : Prepared). q.kept) (w.refused h).0 in omega (arith, none)
+      concluded_is (Ok counts) call v =
+          advance_done (pairs-found fit same (Ok counts) call refl) predicted same_lengths.0 same_lengths.1 pair-boxes pair-tracks unmatched v
+      concluded_is (Err why) call v = absurd (always-paired fit same (Err why) call refl)
 
 -- ---- how a call goes on from what `prepare` left
 
-module _ (s : Settings) (state : State) (p : Prepared) (l : Inputs) (f : List Float) (c n : List ℕ) (work64 work : List Float) {a : Advanced} where
-  pub ends-refused : {why : Refusal} → p.verdict ≡ Refused why → a ≡ refused_advance p.verdict → Concluded s state p l (lent_with f c n work64 work) a (lent_with f c n work64 work)
-  ends-refused h e = record { ends = λ boxes room l₀ work32 roomy₀ same w. advance_refused s state f c n boxes room work64 work32 roomy₀ w h e }
-
-  pub ends-settled : {l' : Lent} {f₂ : List Float} {c₂ n₂ : List ℕ} (r : AssignmentAnswer) → p.verdict ≡ Accepted → roomy_for l ≡ true
+module _ (s : Settings) (state : State) (p : Prepared) (l : Inputs) (f : List Float) (c n : List ℕ) (work64 work : List Float) {a : Result Advanced Refusal} where
+  pub ends-settled : {l' : Lent} {f₂ : List Float} {c₂ n₂ : List ℕ} (r : Result AssignmentCounts StageRefusal) → roomy_for l ≡ true
       → length l'.lists.pair_boxes ≡ 255 → length l'.lists.pair_tracks ≡ 255 → length l'.lists.unmatched_detections ≡ 255
       → Answers.call_with r l' ≡ pairs_call s p.kept state.count l n (record { lists = no_pairs; work64 = work64; work32 = work })
       → call_with a (table_with f₂ c₂ n₂) ≡ settled state (take (p.kept * 4) l.corners) (take p.kept l.labels) l'.lists.pair_boxes l'.lists.pair_tracks l'.lists.unmatched_detections (table_with f c n) r
       → Concluded s state p l (lent_with f c n work64 work) a (lent_with f₂ c₂ n₂ l'.work64 l'.work32)
-  ends-settled {l'} r h fit pair-boxes pair-tracks unmatched call v =
-      record { ends = λ boxes room l₀ work32 roomy₀ same w. concluded_is s state f c n boxes room work64 work32 roomy₀ w h fit same {l' = l'} pair-boxes pair-tracks unmatched r call v }
+  ends-settled {l'} r fit pair-boxes pair-tracks unmatched call v =
+      record { ends = λ boxes room l₀ work32 roomy₀ same w. concluded_is s state f c n boxes room work64 work32 roomy₀ w refl fit same {l' = l'} pair-boxes pair-tracks unmatched r call v }

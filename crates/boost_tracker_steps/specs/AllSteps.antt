@@ -1,9 +1,8 @@
 -- What a call of `advance` answers and leaves in lent memory. The verdict is the table's; g is the definition's value.
-use Rattle.std.specs.Prelude.{List, ℕ, length, Float}
+use Rattle.std.specs.Prelude.{List, ℕ, length, Float, ⊤, Result, Ok, Err}
 use Rattle.assoc_matching.specs.Answers.{zeroed}
 use Rattle.assoc.specs.Answers.{cleared}
-use Rattle.boost_tracker_verdict.specs.declared.refusal.Verdict.{Verdict}
-use Rattle.boost_tracker_verdict.specs.declared.refusal.Verdict.TheVariants.{Accepted}
+use Rattle.boost_tracker_verdict.specs.declared.refusal.Refusal.{Refusal}
 use Rattle.boost_tracker_settings.specs.declared.settings.Settings.{Settings}
 use Rattle.boost_tracker_verdict.specs.declared.sound.State.{State}
 use Rattle.boost_tracker_table.specs.Lent.{Table, table_with, tracks_in, labels_in, laid_over, Call, call_with}
@@ -14,11 +13,13 @@ use Rattle.boost_tracker_steps.specs.declared.all_steps.Advanced.{Advanced}
 
 -- ---- the answer
 
-abbrev pub refused_advance : Verdict → Advanced
-refused_advance v = record { verdict = v; started = 0; turns = 0; scans = 0 }
-
 abbrev pub accepted_advance : Stages → Advanced
-accepted_advance g = record { verdict = Accepted; started = length g.result.unmatched_detections; turns = g.result.turns; scans = g.result.scans }
+accepted_advance g = record { started = length g.result.unmatched_detections; turns = g.result.turns; scans = g.result.scans }
+
+-- by the verdict on the frame
+abbrev pub answer_of : Stages → Result ⊤ Refusal → Result Advanced Refusal
+answer_of g (Ok _) = Ok (accepted_advance g)
+answer_of g (Err why) = Err why
 
 -- ---- lent memory
 
@@ -37,9 +38,9 @@ lent_after g all l = record { table = laid_over g.started.trackers all l.table; 
 -- ---- a call
 
 -- by the length of the output that the caller has; a refused call changes nothing
-unfoldable pub advanced : Settings → State → Boxes → ℕ → Lent → Call Advanced Lent
+unfoldable pub advanced : Settings → State → Boxes → ℕ → Lent → Call (Result Advanced Refusal) Lent
 advanced s state boxes room l =
-    let v : Verdict = verdict s state l.table boxes room (length l.work64) (length l.work32) in
+    let v : Result ⊤ Refusal = verdict s state l.table boxes room (length l.work64) (length l.work32) in
     let labels : List ℕ = labels_in l.table state.count in
     let g : Stages = update s state boxes (tracks_in l.table state.count) labels in
-    where_accepted v (call_with (accepted_advance g) (lent_after g (labels_started boxes.labels labels g) l)) (call_with (refused_advance v) l)
+    call_with (answer_of g v) (where_accepted v (lent_after g (labels_started boxes.labels labels g) l) l)

@@ -3,56 +3,43 @@ ghost use Rattle.std.specs.Prelude.{◌≡◌, true, ◌≤◌};
 ghost use Rattle.boost_tracker_table.specs.Lent.{table_with, call_with};
 ghost use Rattle.boost_tracker_verdict.specs.Boxes.{boxes_with};
 ghost use Rattle.boost_tracker_pairs.specs.Pairs.{inputs_with, roomy_for};
-ghost use Rattle.boost_tracker_steps.specs.AllSteps.{refused_advance, lent_with, advanced};
+ghost use Rattle.boost_tracker_steps.specs.AllSteps.{lent_with, advanced};
 ghost use Rattle.boost_tracker_steps.specs.Private as Private;
 ghost use Rattle.boost_tracker_steps.specs.Private.{settled, Concluded};
 
-use assoc::AssignmentAnswer;
+use assoc::AssignmentCounts;
 use boost_tracker_follow::follow;
 use boost_tracker_pairs::{Prepared, pairs, prepare};
 use boost_tracker_settings::Settings;
-use boost_tracker_verdict::{Refusal, State, Verdict};
+use boost_tracker_verdict::{Refusal, State};
 
-// The counts are 0 where the frame is refused.
+// The counts of an accepted frame.
 #[derive(Drop)]
 pub struct Advanced {
-    pub verdict: Verdict,
     // tracks started behind those held
     pub started: usize,
     pub turns: usize,
     pub scans: usize,
 }
 
-fn refused(verdict: Verdict) -> Advanced
-    ensures { result ≡ refused_advance verdict }
-{
-    Advanced {
-        verdict,
-        started: 0,
-        turns: 0,
-        scans: 0,
-    }
-}
-
 // By the counts of the pairs that were followed. No stage refuses an accepted frame.
-fn answered(followed: AssignmentAnswer) -> Advanced
+fn answered(followed: Result<AssignmentCounts, assoc::Refusal>) -> Result<Advanced, Refusal>
     ensures { result ≡ Private.answered followed }
 {
-    let AssignmentAnswer::Assigned(counts) = followed else {
-        return refused(Verdict::Refused(Refusal::WorkShort));
-    };
-    Advanced {
-        verdict: Verdict::Accepted,
-        started: counts.detections,
-        turns: counts.turns,
-        scans: counts.scans,
+    match followed {
+        Ok(counts) => Ok(Advanced {
+            started: counts.detections,
+            turns: counts.turns,
+            scans: counts.scans,
+        }),
+        Err(_) => Err(Refusal::WorkShort),
     }
 }
 
 // Steps 6 and 7: the table predicted, and the pairs that step 5 found followed.
 fn settle(
     state: State,
-    paired: AssignmentAnswer,
+    paired: Result<AssignmentCounts, assoc::Refusal>,
     floats: &mut [f32],
     counters: &mut [u64],
     labels: &mut [u8],
@@ -61,12 +48,12 @@ fn settle(
     pair_boxes: &[usize],
     pair_tracks: &[usize],
     unmatched: &[usize],
-) -> Advanced
+) -> Result<Advanced, Refusal>
     ensures { call_with result (table_with floats.new counters.new labels.new)
         ≡ settled state corners.now kept_labels.now pair_boxes.now pair_tracks.now unmatched.now
         (table_with floats.old counters.old labels.old) paired }
 {
-    let AssignmentAnswer::Assigned(counts) = paired else {
+    let Ok(counts) = paired else {
         return answered(paired);
     };
     let held = state.count;
@@ -102,17 +89,13 @@ fn conclude(
     confs: &[f32],
     work64: &mut [f64],
     work32: &mut [f32],
-) -> Advanced
+) -> Result<Advanced, Refusal>
     requires few { prepared.kept ≤ 255 }
     requires roomy { roomy_for (inputs_with corners.now kept_labels.now scores.now trks.now confs.now) ≡ true }
     ensures { Concluded settings state prepared (inputs_with corners.now kept_labels.now scores.now trks.now confs.now)
         (lent_with floats.old counters.old labels.old work64.old work32.old) result
         (lent_with floats.new counters.new labels.new work64.new work32.new) }
 {
-    let verdict = prepared.verdict;
-    let Verdict::Accepted = verdict else {
-        return refused(verdict);
-    };
     let kept = prepared.kept;
     let end = kept * 4;
     let mut pair_boxes = [0usize; 255];
@@ -162,7 +145,7 @@ pub fn advance(
     room: usize,
     work64: &mut [f64],
     work32: &mut [f32],
-) -> Advanced
+) -> Result<Advanced, Refusal>
     ensures { call_with result (lent_with floats.new counters.new labels.new work64.new work32.new)
         ≡ advanced settings state (boxes_with boxes.now box_labels.now) room
         (lent_with floats.old counters.old labels.old work64.old work32.old) }
@@ -189,7 +172,7 @@ pub fn advance(
         &mut trks,
         &mut confs,
         work32,
-    );
+    )?;
     conclude(
         settings,
         state,

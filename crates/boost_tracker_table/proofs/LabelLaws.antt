@@ -1,20 +1,21 @@
 -- The labels of the table: what the loops over them know and leave, and what a caller of the functions on the table needs. Assumes nothing.
 use mathlib.Core.Path.{◌≡◌, refl, sym, ap, ◌∙◌}
 use mathlib.Core.Bool.{Bool, true, false, cond}
-use mathlib.Core.List.{List, [], ◌∷◌, ◌++◌, map, append_assoc}
-use Prim.Native.Nat.{ℕ, suc, ◌+◌, ◌-◌, ◌*◌, ◌≤◌, ◌<◌, min}
+use mathlib.Core.List.{List, [], ◌∷◌, ◌++◌, map}
+use Prim.Native.Nat.{ℕ, ◌+◌, ◌-◌, ◌*◌, ◌≤◌, ◌<◌, min}
 use native.Mathlib.Nat.{le_trans, le_of_eq, min-eq_left, mul-one, add-zero}
 use native.Mathlib.Numerals.{add-one}
 use native.Mathlib.Omega.{arith}
-use lib.ListN.{length, length-append, length-drop, length-map, length-replicate, length-set, get_or, set, take, drop, replicate, replicate-append-replicate, take-append-drop, get_or-append}
-use lib.Seq.{append_snoc, drop_at, drop-cons, drop-drop, get_or-drop, length-take-le, set_at, set_split, take_at}
+use lib.ListN.{length, length-append, length-drop, length-map, length-replicate, get_or, set, take, drop, replicate, get_or-append}
+use lib.Seq.{drop_at, drop-drop, get_or-drop, length-take-le, set_split, take_at}
 use lib.Ieee.{Float}
 use borrow.Author.Tests.{le-ltb}
 use Rattle.laws.specs.Tab.{map_at, indices}
 use Rattle.laws.specs.Scan.{lowest, lowest_never}
 use Rattle.laws.specs.Sieve.{sieve, sieve-few}
 use Rattle.laws.specs.Picked.{sieve-places, picked-below}
-use Rattle.laws.specs.Splice.{splice}
+use borrow.Rule.Slice.PartMut.{put_mid}
+use Rattle.laws.specs.Splice.{splice, mid_is}
 use Rattle.laws.specs.Laid.{rows, laid}
 use Rattle.laws.specs.Over.{over, over-front, length_over}
 use Rattle.laws.specs.Kept.{Keeping, keep_ahead, keep_on, keep_end}
@@ -102,7 +103,7 @@ labels_where_are q p ts labels all k h =
     let c : k < length inds = rw (length-map inds (label_at labels)) at h in
     rw (map_at (label_at labels) inds k 0 0 c) (all (get_or inds k 0) (picked-below (λ i. p (get_or ts i blank)) (length ts) k c))
 
--- ---- labels beyond: those from behind xs up to i are zero
+-- ---- labels beyond: those from behind xs up to the places are zero
 
 pub zero-length : (xs : List ℕ) (places : ℕ) (l : List ℕ) → length xs ≤ places → places ≤ length l → length (zero_filled xs places l) ≡ length l
 unfolding zero_filled
@@ -113,45 +114,17 @@ pub zero-over : (xs ks : List ℕ) (places : ℕ) (l : List ℕ) → length ks �
 unfolding zero_filled
 zero-over xs ks places l h = rw (over-rest ks l places h)
 
-pub record Zeroing (xs l : List ℕ) (places : ℕ) (out : List ℕ) (i : ℕ) : Type 0 where
-  pub room : places ≤ length l
-  pub upto : i ≤ places
-  pub zeros : ℕ
-  pub count : i ≡ length xs + zeros
-  pub cells : out ≡ xs ++ (replicate zeros 0 ++ drop i l)
-  pub same : length out ≡ length l
-
-pub zero-start : (l : List ℕ) (held places : ℕ) {end i : ℕ} → end ≡ min places (length l) → i ≡ min held end → Zeroing (take (min held (min places (length l))) l) l end l i
-zero-start l held places {end} {i} e n =
-    let k : ℕ = min held (min places (length l)) in
-    let i-is : i ≡ k = n ∙ ap (min held) e in
-    let many : length (take k l) ≡ k = length-take-le k l (omega arith) in
-    record { room = omega (arith, e); upto = omega (arith, n); zeros = 0; count = omega (arith, i-is, many); cells = rw i-is (sym (take-append-drop k l)); same = refl }
-
-zero_stored : (xs l : List ℕ) (k i : ℕ) → i ≡ length xs + k → i < length l → set (xs ++ (replicate k 0 ++ drop i l)) i 0 ≡ xs ++ (replicate (k + 1) 0 ++ drop (i + 1) l)
-zero_stored xs l k i e h =
-    let front : List ℕ = xs ++ replicate k 0 in
-    let many : length front ≡ i = length-append xs (replicate k 0) ∙ rw (length-replicate {A = ℕ} k 0) (sym e) in
-    let next : front ++ (0 ∷ drop (i + 1) l) ≡ xs ++ (replicate (k + 1) 0 ++ drop (i + 1) l) =
-    append_assoc xs (replicate k 0) (0 ∷ drop (i + 1) l) ∙ rw (← replicate-append-replicate {A = ℕ} k 1 0) (sym (ap (λ (m : List ℕ). xs ++ m) (append_snoc (replicate k 0) 0 (drop (i + 1) l)))) in
-    rw (drop-cons l i 0 h, ← append_assoc xs (replicate k 0) (get_or l i 0 ∷ drop (suc i) l), ← add-one i) (set_at front (get_or l i 0) (drop (i + 1) l) 0 i many ∙ next)
-
-module _ {xs l : List ℕ} {places : ℕ} {out : List ℕ} {i : ℕ} (z : Zeroing xs l places out i) where
-  pub zero-on : i < places → Zeroing xs l places (set out i 0) (i + 1)
-  zero-on h =
-      let room = z.room in
-      let count = z.count in
-      let cells = ap (λ (m : List ℕ). set m i 0) z.cells ∙ zero_stored xs l z.zeros i count (omega arith) in
-      record { room = room; upto = omega arith; zeros = z.zeros + 1; count = omega arith; cells = cells; same = length-set out i 0 ∙ z.same }
-
-  pub zero-end : {end : ℕ} → places ≤ i → places ≡ end → out ≡ zero_filled xs end l
-  unfolding zero_filled
-  zero-end {end} h e =
-      let upto = z.upto in
-      let count = z.count in
-      let is : i ≡ end = omega arith in
-      let rest : end - length xs ≡ z.zeros = omega arith in
-      rw (rest, ← is) z.cells
+pub zero-stored : (l : List ℕ) {first places : ℕ} {vs : List ℕ} → first ≤ places → places ≤ length l → vs ≡ replicate (length (take (places - first) (drop first l))) 0
+    → put_mid first (places - first) l vs ≡ zero_filled (take first l) places l
+unfolding zero_filled
+zero-stored l {first} {places} {vs} low room e =
+    let k : ℕ = places - first in
+    let fill : length (take k (drop first l)) ≡ k = length-take-le k (drop first l) (rw length-drop (omega arith)) in
+    let vs-is : vs ≡ replicate k 0 = rw fill at e in
+    let whole : length vs ≡ k = ap length vs-is ∙ length-replicate {A = ℕ} k 0 in
+    let end : first + k ≡ places = omega arith in
+    let many : length (take first l) ≡ first = length-take-le first l (omega arith) in
+    mid_is l first k vs whole ∙ rw (whole, end, many, vs-is)
 
 -- where each of these is a label, none in the front is other than 1 to 3
 pub none-unlabelled : (ls : List ℕ) (places : ℕ) (l : List ℕ) (n : ℕ) → n ≡ length ls → ((i : ℕ) → i < length ls → is_label (label_at ls i) ≡ true) → unlabelled (zero_filled ls places l) n ≡ false

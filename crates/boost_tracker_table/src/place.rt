@@ -27,33 +27,11 @@ fn pair_at(f: &[f32], at: usize) -> Pair
     }
 }
 
-fn put_six(f: &mut [f32], pair: Pair)
-    requires { length f.old ≡ 6 }
-    ensures { f.new ≡ pair_floats pair }
-{
-    f[0] = pair.p;
-    f[1] = pair.v;
-    f[2] = pair.a;
-    f[3] = pair.b;
-    f[4] = pair.c;
-    f[5] = pair.d;
-}
-
 fn put_pair(f: &mut [f32], at: usize, pair: Pair)
     requires { at + 6 ≤ length f.old }
     ensures { f.new ≡ splice f.old at (pair_floats pair) }
 {
-    put_six(&mut f[at..at + 6], pair);
-}
-
-fn put_four(c: &mut [u64], t: KalmanBoxTracker)
-    requires { length c.old ≡ place_counters }
-    ensures { c.new ≡ counters_of t }
-{
-    c[0] = t.id;
-    c[1] = t.since;
-    c[2] = t.streak;
-    c[3] = t.age;
+    f[at..at + 6].copy_from_slice(&[pair.p, pair.v, pair.a, pair.b, pair.c, pair.d]);
 }
 
 // The track in the floats and the counters of a place.
@@ -93,10 +71,9 @@ pub(crate) fn put_track(f: &mut [f32], c: &mut [u64], i: usize, t: KalmanBoxTrac
 {
     let at = i * PLACE_FLOATS;
     let k = i * PLACE_COUNTERS;
-    let kf = t.kf;
-    put_pair(f, at, kf.x);
-    put_pair(f, at + 6, kf.y);
-    put_pair(f, at + 12, kf.h);
-    put_pair(f, at + 18, kf.r);
-    put_four(&mut c[k..k + PLACE_COUNTERS], t);
+    put_pair(f, at, t.kf.x);
+    put_pair(f, at + 6, t.kf.y);
+    put_pair(f, at + 12, t.kf.h);
+    put_pair(f, at + 18, t.kf.r);
+    c[k..k + PLACE_COUNTERS].copy_from_slice(&[t.id, t.since, t.streak, t.age]);
 }

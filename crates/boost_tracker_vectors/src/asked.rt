@@ -1,7 +1,7 @@
 // What why answers of boxes of a frame, a line each: the index; number and index of the refusal; where it is explained fate and id, the three scores, and the track
 // that it was paired with by id, IoU, intersection and union; and a digest of the work slices.
 use boost_tracker::{Settings, State};
-use boost_tracker_why::{Explanation, WhyAnswer, why};
+use boost_tracker_why::{Explanation, WhyRefusal, why};
 use vectors::line::Line;
 use vectors::part::at_most;
 use vectors::{input, lent};
@@ -15,7 +15,7 @@ fn told(line: Line, e: Explanation) -> Line {
     let partner = e.partner;
     let named = line
         .bar()
-        .number(fate.number() as u64)
+        .number(u64::from(u32::from(fate)))
         .number(fate.id())
         .bar();
     let scored = named
@@ -27,12 +27,13 @@ fn told(line: Line, e: Explanation) -> Line {
     paired.float(partner.intersection).float(partner.union)
 }
 
-fn answer(line: Line, a: WhyAnswer) -> Line {
-    let said = line.bar().number(a.number() as u64).number(a.index());
+fn answer(line: Line, a: Result<Explanation, WhyRefusal>) -> Line {
     match a {
-        WhyAnswer::Explained(e) => told(said, e),
-        WhyAnswer::Refused(_) => said,
-        WhyAnswer::NoBox => said,
+        Ok(e) => told(line.bar().number(0).number(0), e),
+        Err(why) => line
+            .bar()
+            .number(u64::from(u32::from(why)))
+            .number(why.index()),
     }
 }
 
@@ -50,8 +51,8 @@ fn ask(
 ) {
     let mut doubles = [1.0f64; 65568];
     let mut singles = [1.0f32; 262176];
-    let u = lent::doubles(&mut doubles, w[3]);
-    let v = lent::floats(&mut singles, w[4]);
+    let u = lent::first(&mut doubles, w[3]);
+    let v = lent::first(&mut singles, w[4]);
     let a = why(
         settings,
         state,
@@ -81,14 +82,12 @@ pub(crate) fn ask_all(
 ) {
     let mut values = [0.0f32; 1280];
     let mut of_boxes = [0u8; 258];
-    let boxes = lent::floats(&mut values, w[0]);
+    let boxes = lent::first(&mut values, w[0]);
     input::floats(1280, 0.0, boxes);
     let labels = input::bytes(&mut of_boxes, w[1]);
     let first = at_most(MOST, w[5]);
     let many = at_most(MOST, w[6]);
-    let mut k = 0;
-    while k < many {
-        ask(w, settings, state, f, c, l, boxes, labels, first + k);
-        k += 1;
+    for index in first..first + many {
+        ask(w, settings, state, f, c, l, boxes, labels, index);
     }
 }

@@ -10,7 +10,7 @@
 mod asked;
 
 use asked::ask_all;
-use boost_tracker::{Settings, State, UpdateAnswer};
+use boost_tracker::{Refusal, Settings, State, UpdateAnswer};
 use boost_tracker_forget::Forgotten;
 use vectors::line::Line;
 use vectors::part::at_most;
@@ -20,6 +20,7 @@ use vectors_digest::floats::float;
 
 // What goes on from record to record beside the table: the next one's kind, and how many floats, counters and labels are lent.
 #[derive(Clone, Copy)]
+// Kept: the kind is the number that stands for it in standard input.
 struct Playing {
     kind: u32,
     settings: Settings,
@@ -78,11 +79,18 @@ fn opened(w: &[u64; 17], f: &mut [f32], c: &mut [u64], l: &mut [u8]) {
     words.digest(table(f, c, l)).print();
 }
 
+// Number and index of a refusal, both 0 where there is none.
+fn refused(line: Line, verdict: Result<(), Refusal>) -> Line {
+    match verdict {
+        Ok(()) => line.number(0).number(0),
+        Err(why) => line.number(u64::from(u32::from(why))).number(why.index()),
+    }
+}
+
 fn answer(line: Line, boxes: &[f32], labels: &[u8], a: UpdateAnswer) -> Line {
-    let v = a.verdict;
     let state = a.state;
     let given = line.number(boxes.len() as u64 / 5).bar();
-    let verdict = given.number(v.number() as u64).number(v.index()).bar();
+    let verdict = refused(given, a.verdict).bar();
     let emitted = verdict.number(a.emitted as u64).number(a.turns as u64);
     let counted = emitted.number(a.scans as u64).bar();
     let held = counted.number(state.count as u64).number(state.last);
@@ -97,10 +105,10 @@ fn frame(w: &[u64; 17], now: Playing, f: &mut [f32], c: &mut [u64], l: &mut [u8]
     let mut bytes = [7u8; 16929];
     let mut doubles = [1.0f64; 65568];
     let mut singles = [1.0f32; 262176];
-    let boxes = lent::floats(&mut values, w[0]);
-    let out = lent::bytes(&mut bytes, w[2]);
-    let u = lent::doubles(&mut doubles, w[3]);
-    let v = lent::floats(&mut singles, w[4]);
+    let boxes = lent::first(&mut values, w[0]);
+    let out = lent::first(&mut bytes, w[2]);
+    let u = lent::first(&mut doubles, w[3]);
+    let v = lent::first(&mut singles, w[4]);
     input::floats(1280, 0.0, boxes);
     let b = input::bytes(&mut of_boxes, w[1]);
     let a = boost_tracker::update(now.settings, now.state, f, c, l, boxes, b, out, u, v);
@@ -111,6 +119,7 @@ fn frame(w: &[u64; 17], now: Playing, f: &mut [f32], c: &mut [u64], l: &mut [u8]
     a.state
 }
 
+// Kept: what is done of a record is picked by the number that stands for it in standard input.
 fn drops(now: Playing, f: &mut [f32], c: &mut [u64], l: &mut [u8], ids: &[u64]) -> Forgotten {
     if now.kind == 4 && ids.len() > 0 {
         return boost_tracker_forget::forget(now.state, f, c, l, ids[0]);
@@ -119,10 +128,10 @@ fn drops(now: Playing, f: &mut [f32], c: &mut [u64], l: &mut [u8], ids: &[u64]) 
 }
 
 fn of_drop(ids: &[u64], a: Forgotten) -> Line {
-    let v = a.verdict;
     let state = a.state;
     let given = Line::new().text(b"drop").number(ids.len() as u64).bar();
-    let said = given.number(v.number() as u64).bar();
+    let number = a.verdict.err().map_or(0, u32::from);
+    let said = given.number(u64::from(number)).bar();
     let held = said.number(state.count as u64).number(state.last);
     held.number(state.frames)
         .bar()
@@ -132,7 +141,7 @@ fn of_drop(ids: &[u64], a: Forgotten) -> Line {
 // The state after a drop.
 fn dropped(w: &[u64; 17], now: Playing, f: &mut [f32], c: &mut [u64], l: &mut [u8]) -> State {
     let mut numbers = [0u64; 300];
-    let ids = lent::words(&mut numbers, w[0]);
+    let ids = lent::first(&mut numbers, w[0]);
     input::longs(300, ids);
     let a = drops(now, f, c, l, ids);
     let said = of_drop(ids, a);
@@ -140,6 +149,7 @@ fn dropped(w: &[u64; 17], now: Playing, f: &mut [f32], c: &mut [u64], l: &mut [u
     a.state
 }
 
+// Kept: what is done of a record is picked by the number that stands for it in standard input.
 fn step(w: &[u64; 17], now: Playing, f: &mut [f32], c: &mut [u64], l: &mut [u8]) -> State {
     if now.kind == 0 {
         opened(w, f, c, l);
@@ -167,6 +177,7 @@ fn play(w: &[u64; 17], now: Playing, f: &mut [f32], c: &mut [u64], l: &mut [u8])
 }
 
 // How many words a frame has, a question about its boxes, or a drop.
+// Kept: the number stands for a kind in standard input.
 fn lengths(kind: u32) -> usize {
     if kind == 1 {
         return 5;
@@ -174,6 +185,7 @@ fn lengths(kind: u32) -> usize {
     if kind == 2 { 7 } else { 1 }
 }
 
+// Kept: what is read of a record is picked by the number that stands for it in standard input.
 fn replay(now: Playing, f: &mut [f32; 6143], c: &mut [u64; 1023], l: &mut [u8; 257]) -> Playing {
     let mut w = [0u64; 17];
     if now.kind == 0 {
@@ -191,9 +203,10 @@ fn main() {
     let mut labels = [7u8; 257];
     let mut now = started(&[0; 17]);
     now.kind = input::word_or(5);
-    let mut records = u64::MAX;
-    while records > 0 && now.kind < 5 {
+    for _ in 0..u64::MAX {
+        if now.kind > 4 {
+            return;
+        }
         now = replay(now, &mut floats, &mut counters, &mut labels);
-        records -= 1;
     }
 }

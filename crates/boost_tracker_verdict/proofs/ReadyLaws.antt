@@ -8,6 +8,8 @@ use lib.Dec.{leb, ltb, eqb}
 use lib.ListN.{length, get_or}
 use lib.Ieee.Scale.{finite}
 use borrow.Author.Tests.{ltb-false, leb-true, leb-false, not-false}
+use Rattle.std.specs.Bool.{⊤}
+use Rattle.std.proofs.Common.{Result, Ok, Err}
 use Rattle.laws.specs.Choose.{cond_no}
 use Rattle.laws.specs.Tests.{and_left, and_right, or_none}
 use Rattle.laws.specs.Scan.{lowest}
@@ -24,8 +26,6 @@ use Rattle.boost_tracker_table.specs.Lent.{Table, places_of, tracks_in}
 use Rattle.boost_tracker_table.proofs.Laws.{capacity-room, tracks-many}
 use Rattle.boost_tracker_verdict.specs.declared.refusal.Refusal.{Refusal}
 use Rattle.boost_tracker_verdict.specs.declared.refusal.Refusal.TheVariants.{TableNotSound, TrackNotLabelled, TrackNotWorkable, SettingNotFinite, TooManyBoxes, TableFull, BadBox, BoxNotLabelled, TooManyFrames, OutputShort, WorkShort}
-use Rattle.boost_tracker_verdict.specs.declared.refusal.Verdict.{Verdict}
-use Rattle.boost_tracker_verdict.specs.declared.refusal.Verdict.TheVariants.{Accepted, Refused}
 use Rattle.boost_tracker_verdict.specs.declared.sound.State.{State}
 use Rattle.boost_tracker_verdict.specs.Boxes.{Boxes}
 use Rattle.boost_tracker_verdict.specs.Sound.{rising, counters_in, sound, sound_table}
@@ -42,7 +42,7 @@ accepted_exactly t bbox = by_cases (updatable (predict t).kf) refl
 
 -- ---- each group of tests
 
-refused : (why : Refusal) → Refused why ≡ Accepted → ⊥
+refused : (why : Refusal) → ◌≡◌ {A = Result ⊤ Refusal} (Err why) (Ok tt) → ⊥
 refused why q = let z : ◌≡◌ {A = ℕ} 0 1 = cc in omega arith
 
 record TablePassed (s : Settings) (state : State) (t : Table) : Type 0 where
@@ -51,13 +51,13 @@ record TablePassed (s : Settings) (state : State) (t : Table) : Type 0 where
   pub is-workable : every workable (tracks_in t state.count) ≡ true
   pub is_finite : every finite (setting_floats s) ≡ true
 
-table-passed : (s : Settings) (state : State) (t : Table) → of_table s state t ≡ Accepted → TablePassed s state t
+table-passed : (s : Settings) (state : State) (t : Table) → of_table s state t ≡ Ok tt → TablePassed s state t
 unfolding of_table
 table-passed s state t e =
-    let s₁ = cond_no (not (sound_table state t)) (Refused TableNotSound) _ Accepted (refused TableNotSound) e in
-    let s₂ = cond_no (unlabelled t.labels state.count) (Refused TrackNotLabelled) _ Accepted (refused TrackNotLabelled) s₁.1 in
-    let s₃ = cond_no (not (every workable (tracks_in t state.count))) (Refused TrackNotWorkable) _ Accepted (refused TrackNotWorkable) s₂.1 in
-    let s₄ = cond_no (not (every finite (setting_floats s))) (Refused SettingNotFinite) Accepted Accepted (refused SettingNotFinite) s₃.1 in
+    let s₁ = cond_no (not (sound_table state t)) (Err TableNotSound) _ (Ok tt) (refused TableNotSound) e in
+    let s₂ = cond_no (unlabelled t.labels state.count) (Err TrackNotLabelled) _ (Ok tt) (refused TrackNotLabelled) s₁.1 in
+    let s₃ = cond_no (not (every workable (tracks_in t state.count))) (Err TrackNotWorkable) _ (Ok tt) (refused TrackNotWorkable) s₂.1 in
+    let s₄ = cond_no (not (every finite (setting_floats s))) (Err SettingNotFinite) (Ok tt) (Ok tt) (refused SettingNotFinite) s₃.1 in
     record { is-sound = not-false _ s₁.0; is-labelled = ltb-false _ state.count s₂.0; is-workable = not-false _ s₃.0; is_finite = not-false _ s₄.0 }
 
 record BoxesPassed (held places : ℕ) (boxes : Boxes) : Type 0 where
@@ -66,16 +66,16 @@ record BoxesPassed (held places : ℕ) (boxes : Boxes) : Type 0 where
   pub none-bad : boxes_in boxes.values ≤ lowest (bad_box_at boxes.values) (boxes_in boxes.values)
   pub none-unlabelled : boxes_in boxes.values ≤ lowest (unlabelled_at boxes.labels) (boxes_in boxes.values)
 
-boxes-passed : (held places : ℕ) (boxes : Boxes) → of_boxes held places boxes ≡ Accepted → BoxesPassed held places boxes
+boxes-passed : (held places : ℕ) (boxes : Boxes) → of_boxes held places boxes ≡ Ok tt → BoxesPassed held places boxes
 unfolding of_boxes
 boxes-passed held places boxes e =
     let n : ℕ = boxes_in boxes.values in
     let bad : ℕ = lowest (bad_box_at boxes.values) n in
     let bare : ℕ = lowest (unlabelled_at boxes.labels) n in
-    let s₁ = cond_no (ltb 255 n) (Refused TooManyBoxes) _ Accepted (refused TooManyBoxes) e in
-    let s₂ = cond_no (ltb places (held + n)) (Refused TableFull) _ Accepted (refused TableFull) s₁.1 in
-    let s₃ = cond_no (ltb bad n) (Refused (BadBox bad)) _ Accepted (refused (BadBox bad)) s₂.1 in
-    let s₄ = cond_no (ltb bare n) (Refused (BoxNotLabelled bare)) Accepted Accepted (refused (BoxNotLabelled bare)) s₃.1 in
+    let s₁ = cond_no (ltb 255 n) (Err TooManyBoxes) _ (Ok tt) (refused TooManyBoxes) e in
+    let s₂ = cond_no (ltb places (held + n)) (Err TableFull) _ (Ok tt) (refused TableFull) s₁.1 in
+    let s₃ = cond_no (ltb bad n) (Err (BadBox bad)) _ (Ok tt) (refused (BadBox bad)) s₂.1 in
+    let s₄ = cond_no (ltb bare n) (Err (BoxNotLabelled bare)) (Ok tt) (Ok tt) (refused (BoxNotLabelled bare)) s₃.1 in
     record { low = ltb-false 255 n s₁.0; placed = ltb-false places (held + n) s₂.0; none-bad = ltb-false bad n s₃.0; none-unlabelled = ltb-false bare n s₄.0 }
 
 record RoomPassed (held n frames out work64 work32 : ℕ) : Type 0 where
@@ -84,13 +84,13 @@ record RoomPassed (held n frames out work64 work32 : ℕ) : Type 0 where
   pub enough64 : max held n * max held n ≤ work64
   pub enough32 : 4 * (max held n * max held n) ≤ work32
 
-room-passed : (held n frames out work64 work32 : ℕ) → of_room held n frames out work64 work32 ≡ Accepted → RoomPassed held n frames out work64 work32
+room-passed : (held n frames out work64 work32 : ℕ) → of_room held n frames out work64 work32 ≡ Ok tt → RoomPassed held n frames out work64 work32
 unfolding of_room
 room-passed held n frames out work64 work32 e =
     let m : ℕ = max held n in
-    let s₁ = cond_no (leb 2147483647 frames) (Refused TooManyFrames) _ Accepted (refused TooManyFrames) e in
-    let s₂ = cond_no (ltb (out / track_bytes) (held + n)) (Refused OutputShort) _ Accepted (refused OutputShort) s₁.1 in
-    let s₃ = cond_no (ltb work64 (m * m) || ltb work32 (4 * (m * m))) (Refused WorkShort) Accepted Accepted (refused WorkShort) s₂.1 in
+    let s₁ = cond_no (leb 2147483647 frames) (Err TooManyFrames) _ (Ok tt) (refused TooManyFrames) e in
+    let s₂ = cond_no (ltb (out / track_bytes) (held + n)) (Err OutputShort) _ (Ok tt) (refused OutputShort) s₁.1 in
+    let s₃ = cond_no (ltb work64 (m * m) || ltb work32 (4 * (m * m))) (Err WorkShort) (Ok tt) (Ok tt) (refused WorkShort) s₂.1 in
     let w = or_none (ltb work64 (m * m)) (ltb work32 (4 * (m * m))) s₃.0 in
     record {
       few-frames = leb-false 2147483647 frames s₁.0;
@@ -124,19 +124,19 @@ sound-parts places state ts e =
 
 -- ---- what the second and the third group of tests need of those before
 
-pub held-few : (s : Settings) (state : State) (t : Table) → of_table s state t ≡ Accepted → state.count ≤ 255
+pub held-few : (s : Settings) (state : State) (t : Table) → of_table s state t ≡ Ok tt → state.count ≤ 255
 held-few s state t e =
     let within = (sound-parts _ state _ (table-passed s state t e).is-sound).within in
     omega arith
 
-pub boxes-few : (held places : ℕ) (boxes : Boxes) → of_boxes held places boxes ≡ Accepted → boxes_in boxes.values ≤ 255
+pub boxes-few : (held places : ℕ) (boxes : Boxes) → of_boxes held places boxes ≡ Ok tt → boxes_in boxes.values ≤ 255
 boxes-few held places boxes e = (boxes-passed held places boxes e).low
 
 -- ---- the whole
 
-both : (a b : Verdict) → or_else a b ≡ Accepted → (a ≡ Accepted) × (b ≡ Accepted)
-both Accepted b e = (refl, e)
-both (Refused why) b e = absurd (refused why e)
+both : (a b : Result ⊤ Refusal) → or_else a b ≡ Ok tt → (a ≡ Ok tt) × (b ≡ Ok tt)
+both (Ok tt) b e = (refl, e)
+both (Err why) b e = absurd (refused why e)
 
 held-track : (state : State) (ts : List Track) (i : ℕ) → i < length ts → every workable ts ≡ true → every (λ t. leb t.id state.last) ts ≡ true → every (counters_in state.frames) ts ≡ true
     → HeldTrack state (get_or ts i blank)
@@ -155,7 +155,7 @@ held-track state ts i h w k n =
       correctable = and_right (every finite (floats_of t)) _ works;
     }
 
-pub ready : (s : Settings) (state : State) (t : Table) (boxes : Boxes) (out work64 work32 : ℕ) → verdict s state t boxes out work64 work32 ≡ Accepted → Ready s state t boxes out work64 work32
+pub ready : (s : Settings) (state : State) (t : Table) (boxes : Boxes) (out work64 work32 : ℕ) → verdict s state t boxes out work64 work32 ≡ Ok tt → Ready s state t boxes out work64 work32
 unfolding verdict
 ready s state t boxes out work64 work32 e =
     let held : ℕ = state.count in

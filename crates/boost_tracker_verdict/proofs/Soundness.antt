@@ -2,9 +2,9 @@
 use mathlib.Core.Path.{◌≡◌, refl, sym, ap, ◌∙◌}
 use mathlib.Core.Bool.{Bool, true, false, ◌&&◌}
 use mathlib.Core.List.{List, [], ◌∷◌}
-use Prim.Native.Nat.{ℕ, ◌*◌, ◌≤◌, ◌<◌}
+use Prim.Native.Nat.{ℕ, ◌*◌, ◌≤◌}
 use lib.Dec.{leb, ltb}
-use borrow.Author.Tests.{le-leb, lt-leb}
+use borrow.Author.Tests.{le-leb}
 use Rattle.laws.specs.Every.{every, chain}
 use Rattle.boost_tracker_verdict.specs.declared.sound.State.{State}
 use Rattle.boost_tracker_table.specs.Table.{Track}
@@ -43,12 +43,6 @@ module _ (s : State) (places : ℕ) (ts : List Track) where
       ap (λ (b : Bool). leb s.count places && b)
       (third (rising 0 ts) (every (λ t. leb t.id s.last) ts) (leb s.last (255 * s.frames)) (every (counters_in s.frames) ts)
       ∙ ap (λ (b : Bool). leb s.last (255 * s.frames) && b) (sym (chain_kinds s.last s.frames 0 ts)))
-
-  pub too_many : places < s.count → false ≡ sound places s ts
-  too_many h = sym (sound-is ∙ rw (lt-leb s.count places h))
-
-  pub too_high : s.count ≤ places → leb s.last (255 * s.frames) ≡ false → false ≡ sound places s ts
-  too_high h e = sym (sound-is ∙ rw (le-leb s.count places h, e))
 
   pub passed : s.count ≤ places → leb s.last (255 * s.frames) ≡ true → chain (orderly s.last s.frames) id_of 0 ts ≡ sound places s ts
   passed h e = sym (sound-is ∙ rw (le-leb s.count places h, e))

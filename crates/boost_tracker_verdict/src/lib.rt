@@ -7,6 +7,6 @@ pub mod sound;
 mod verdict;
 mod workable;
 
-pub use refusal::{Refusal, Verdict};
+pub use refusal::Refusal;
 pub use sound::State;
 pub use verdict::frame_verdict;

@@ -1,8 +1,8 @@
-// Why a frame is turned down: document 01's 11 to 19 and 02's 10 and 20, in this order.
+// Why a frame is turned down: the first reason that applies, in this order. Each has its number beside it.
 ghost use Rattle.std.specs.Prelude.{◌≡◌};
 ghost use Rattle.boost_tracker_verdict.specs.Verdict as Spec;
 
-#[derive(Clone, Copy)]
+#[derive(Clone, Copy, Debug, PartialEq, Eq)]
 pub enum Refusal {
     // 11
     TableNotSound,
@@ -28,17 +28,11 @@ pub enum Refusal {
     WorkShort,
 }
 
-#[derive(Clone, Copy)]
-pub enum Verdict {
-    Accepted,
-    Refused(Refusal),
-}
+impl From<Refusal> for u32 {
+    ghost from_gives = { λ why n. n ≡ Spec.number why };
 
-impl Refusal {
-    pub fn number(self) -> u32
-        ensures { result ≡ Spec.number self }
-    {
-        match self {
+    fn from(why: Refusal) -> u32 {
+        match why {
             Refusal::TableNotSound => 11,
             Refusal::TrackNotLabelled => 10,
             Refusal::TrackNotWorkable => 12,
@@ -52,7 +46,9 @@ impl Refusal {
             Refusal::WorkShort => 19,
         }
     }
+}
 
+impl Refusal {
     // Of a bad box or one without a label; 0 for every other refusal.
     pub fn index(self) -> u64
         ensures { result ≡ Spec.index self }
@@ -69,27 +65,6 @@ impl Refusal {
             Refusal::TooManyFrames => 0,
             Refusal::OutputShort => 0,
             Refusal::WorkShort => 0,
-        }
-    }
-}
-
-// Both are 0 where a frame is accepted.
-impl Verdict {
-    pub fn number(self) -> u32
-        ensures { result ≡ (Spec.answer self).0 }
-    {
-        match self {
-            Verdict::Accepted => 0,
-            Verdict::Refused(why) => why.number(),
-        }
-    }
-
-    pub fn index(self) -> u64
-        ensures { result ≡ (Spec.answer self).1 }
-    {
-        match self {
-            Verdict::Accepted => 0,
-            Verdict::Refused(why) => why.index(),
         }
     }
 }

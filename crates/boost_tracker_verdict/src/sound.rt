@@ -1,4 +1,4 @@
-// Whether a lent table is sound: document 01, "Records and limits".
+// Whether a lent table is sound: no more tracks than places, ids that rise and are few enough, and no counter above the frames.
 ghost use Rattle.std.specs.Prelude.{◌≡◌, ◌*◌, leb, length};
 ghost use Rattle.laws.specs.Every.{chain};
 ghost use Rattle.boost_tracker_table.specs.Table.{places_in, tracks};
@@ -10,7 +10,7 @@ use strack::strack::KalmanBoxTracker;
 
 // What stands beside the table: the held tracks, the last id given, the frames worked.
 #[repr(C)]
-#[derive(Clone, Copy)]
+#[derive(Clone, Copy, Debug, PartialEq, Eq)]
 pub struct State {
     pub count: usize,
     // the Rust's track_id_count
@@ -19,56 +19,43 @@ pub struct State {
     pub frames: u64,
 }
 
-// At most 255 ids a frame. The product may not fit, so the quotient is compared.
+// At most 255 ids a frame. A product that does not fit is above every id.
 fn ids_few(last: u64, frames: u64) -> bool
     ensures { result ≡ leb last (255 * frames) }
 {
-    let q = last / 255;
-    if q < frames {
-        return true;
-    }
-    if frames < q {
-        return false;
-    }
-    last % 255 == 0
+    last <= frames.saturating_mul(255)
 }
 
 // The track's id is above `low`, and it and the counters are in range.
-fn orderly(low: u64, t: KalmanBoxTracker, last: u64, frames: u64) -> bool
-    ensures { result ≡ orderly last frames low t }
+fn orderly(state: State, low: u64, t: KalmanBoxTracker) -> bool
+    ensures { result ≡ orderly state.last state.frames low t }
 {
-    ((low < t.id) & (t.id <= last))
-        & ((t.since <= frames) & ((t.streak <= frames) & (t.age <= frames)))
+    let frames = state.frames;
+    low < t.id && t.id <= state.last && t.since <= frames && t.streak <= frames && t.age <= frames
 }
 
 // Each of the held tracks is, with ids that rise.
-fn all_orderly(floats: &[f32], counters: &[u64], held: usize, last: u64, frames: u64) -> bool
-    ensures { result ≡ chain (orderly last frames) id_of 0 (tracks floats.now counters.now held) }
+fn all_orderly(state: State, floats: &[f32], counters: &[u64]) -> bool
+    ensures { result ≡ chain (orderly state.last state.frames) id_of 0 (tracks floats.now counters.now state.count) }
 {
-    let n = placed(floats.len(), counters.len(), held);
+    let n = placed(floats.len(), counters.len(), state.count);
     let mut low = 0;
-    let mut i = 0;
-    while i < n {
-        let t = load(floats, counters, held, i);
-        if !orderly(low, t, last, frames) {
+    for i in 0..n {
+        let t = load(floats, counters, state.count, i);
+        if !orderly(state, low, t) {
             return false;
         }
         low = t.id;
-        i += 1;
     }
     true
 }
 
 // The labels are given by their number.
+#[tactic(auto, unfolding(crate::specs::Sound::sound))]
 pub fn sound(state: State, floats: &[f32], counters: &[u64], labels: usize) -> bool
     ensures { result ≡ sound (places_in (length floats.now) (length counters.now) labels) state (tracks floats.now counters.now state.count) }
 {
-    let held = state.count;
-    if places_in(floats.len(), counters.len(), labels) < held {
-        return false;
-    }
-    if !ids_few(state.last, state.frames) {
-        return false;
-    }
-    all_orderly(floats, counters, held, state.last, state.frames)
+    state.count <= places_in(floats.len(), counters.len(), labels)
+        && ids_few(state.last, state.frames)
+        && all_orderly(state, floats, counters)
 }

@@ -5,80 +5,89 @@ ghost use Rattle.boost_tracker_verdict.specs.Boxes.{boxes_with};
 ghost use Rattle.boost_tracker_verdict.specs.Verdict as Spec;
 
 use crate::bad_boxes::first_bad_box;
-use crate::refusal::{Refusal, Verdict};
+use crate::refusal::Refusal;
 use crate::sound::{State, sound};
 use crate::workable::{all_workable, finite_settings};
 use boost_tracker_settings::Settings;
 use boost_tracker_table::places_in;
 use labels::first_unlabelled;
 use records::{BOX_VALUES, TRACK_BYTES};
-use refusals::larger;
 
 // 11, 10, 12, 13.
+#[tactic(auto, unfolding(crate::specs::Verdict::of_table))]
 fn of_table(
     settings: Settings,
     state: State,
     floats: &[f32],
     counters: &[u64],
     labels: &[u8],
-) -> Verdict
+) -> Result<(), Refusal>
     ensures { result ≡ Spec.of_table settings state (table_with floats.now counters.now labels.now) }
 {
     if !sound(state, floats, counters, labels.len()) {
-        return Verdict::Refused(Refusal::TableNotSound);
+        return Err(Refusal::TableNotSound);
     }
     let held = state.count;
     if first_unlabelled(labels, held) < held {
-        return Verdict::Refused(Refusal::TrackNotLabelled);
+        return Err(Refusal::TrackNotLabelled);
     }
     if !all_workable(floats, counters, held) {
-        return Verdict::Refused(Refusal::TrackNotWorkable);
+        return Err(Refusal::TrackNotWorkable);
     }
     if !finite_settings(settings) {
-        return Verdict::Refused(Refusal::SettingNotFinite);
+        return Err(Refusal::SettingNotFinite);
     }
-    Verdict::Accepted
+    Ok(())
 }
 
 // 14, 15, 16, 20.
-fn of_boxes(held: usize, places: usize, boxes: &[f32], labels: &[u8]) -> Verdict
+#[tactic(auto, unfolding(crate::specs::Verdict::of_boxes))]
+fn of_boxes(held: usize, places: usize, boxes: &[f32], labels: &[u8]) -> Result<(), Refusal>
     requires { held ≤ 255 }
     ensures { result ≡ Spec.of_boxes held places (boxes_with boxes.now labels.now) }
 {
     let n = boxes.len() / BOX_VALUES;
     if 255 < n {
-        return Verdict::Refused(Refusal::TooManyBoxes);
+        return Err(Refusal::TooManyBoxes);
     }
     if places < held + n {
-        return Verdict::Refused(Refusal::TableFull);
+        return Err(Refusal::TableFull);
     }
     let bad = first_bad_box(boxes, n);
     if bad < n {
-        return Verdict::Refused(Refusal::BadBox(bad));
+        return Err(Refusal::BadBox(bad));
     }
     let unlabelled = first_unlabelled(labels, n);
     if unlabelled < n {
-        return Verdict::Refused(Refusal::BoxNotLabelled(unlabelled));
+        return Err(Refusal::BoxNotLabelled(unlabelled));
     }
-    Verdict::Accepted
+    Ok(())
 }
 
 // 17, 18, 19, for n boxes.
-fn of_room(held: usize, n: usize, frames: u64, out: usize, work64: usize, work32: usize) -> Verdict
+#[tactic(auto, unfolding(crate::specs::Verdict::of_room))]
+fn of_room(
+    held: usize,
+    n: usize,
+    frames: u64,
+    out: usize,
+    work64: usize,
+    work32: usize,
+) -> Result<(), Refusal>
     requires { (held ≤ 255) × (n ≤ 255) }
     ensures { result ≡ Spec.of_room held n frames out work64 work32 }
 {
     if 2147483647 <= frames {
-        return Verdict::Refused(Refusal::TooManyFrames);
+        return Err(Refusal::TooManyFrames);
     }
     if out / TRACK_BYTES < held + n {
-        return Verdict::Refused(Refusal::OutputShort);
+        return Err(Refusal::OutputShort);
     }
-    let side = larger(held, n);
-    if (work64 < side * side) | (work32 < 4 * (side * side)) {
-        return Verdict::Refused(Refusal::WorkShort);
+    let side = held.max(n);
+    if work64 < side * side || work32 < 4 * (side * side) {
+        return Err(Refusal::WorkShort);
     }
-    Verdict::Accepted
+    Ok(())
 }
 
 // The output and the work slices are given by their lengths.
@@ -93,19 +102,13 @@ pub fn frame_verdict(
     out: usize,
     work64: usize,
     work32: usize,
-) -> Verdict
+) -> Result<(), Refusal>
     ensures { result ≡ Spec.verdict settings state (table_with floats.now counters.now labels.now) (boxes_with boxes.now box_labels.now) out work64 work32 }
 {
-    let of_table = of_table(settings, state, floats, counters, labels);
-    let Verdict::Accepted = of_table else {
-        return of_table;
-    };
+    of_table(settings, state, floats, counters, labels)?;
     let held = state.count;
     let places = places_in(floats.len(), counters.len(), labels.len());
-    let of_boxes = of_boxes(held, places, boxes, box_labels);
-    let Verdict::Accepted = of_boxes else {
-        return of_boxes;
-    };
+    of_boxes(held, places, boxes, box_labels)?;
     of_room(
         held,
         boxes.len() / BOX_VALUES,

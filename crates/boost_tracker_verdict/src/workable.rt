@@ -1,4 +1,4 @@
-// Whether the floats of held tracks and of the settings can be worked with: document 01's 12 and 13.
+// Whether the floats of held tracks and of the settings can be worked with.
 ghost use Rattle.std.specs.Prelude.{◌≡◌, [], ◌∷◌};
 ghost use Rattle.std.specs.Float.Ieee.Scale.{finite as ieee_finite};
 ghost use Rattle.laws.specs.Every.{every};
@@ -12,10 +12,11 @@ use box_verdict::finite;
 use strack::strack::KalmanBoxTracker;
 use strack_filter::kalman_filter::{KalmanFilter, Pair};
 
+#[tactic(auto, unfolding(laws::specs::Every::every))]
 fn six_finite(a: f32, b: f32, c: f32, d: f32, e: f32, f: f32) -> bool
     ensures { result ≡ every ieee_finite (a ∷ b ∷ c ∷ d ∷ e ∷ f ∷ []) }
 {
-    finite(a) & finite(b) & finite(c) & finite(d) & finite(e) & finite(f)
+    finite(a) && finite(b) && finite(c) && finite(d) && finite(e) && finite(f)
 }
 
 fn finite_pair(s: Pair) -> bool
@@ -24,18 +25,20 @@ fn finite_pair(s: Pair) -> bool
     six_finite(s.p, s.v, s.a, s.b, s.c, s.d)
 }
 
+#[tactic(auto, unfolding(laws::specs::Every::every))]
 fn finite_filter(kf: KalmanFilter) -> bool
     ensures { result ≡ every ieee_finite (filter_floats kf) }
 {
-    finite_pair(kf.x) & finite_pair(kf.y) & finite_pair(kf.h) & finite_pair(kf.r)
+    finite_pair(kf.x) && finite_pair(kf.y) && finite_pair(kf.h) && finite_pair(kf.r)
 }
 
 // Every float is finite, and once predicted the track can be corrected.
+#[tactic(auto, unfolding(crate::specs::Verdict::workable))]
 fn workable(t: KalmanBoxTracker) -> bool
     ensures { result ≡ workable t }
 {
     let predicted = t.predict();
-    finite_filter(t.kf) & predicted.kf.correctable()
+    finite_filter(t.kf) && predicted.kf.correctable()
 }
 
 // Each of the held tracks is workable.
@@ -43,12 +46,10 @@ pub(crate) fn all_workable(floats: &[f32], counters: &[u64], held: usize) -> boo
     ensures { result ≡ every workable (tracks floats.now counters.now held) }
 {
     let n = placed(floats.len(), counters.len(), held);
-    let mut i = 0;
-    while i < n {
+    for i in 0..n {
         if !workable(load(floats, counters, held, i)) {
             return false;
         }
-        i += 1;
     }
     true
 }

@@ -30,7 +30,7 @@ use Rattle.boost_tracker_mh_dist.specs.MhDist.{det}
 use Rattle.boost_tracker_settings.specs.declared.settings.Settings.{Settings}
 use Rattle.boost_tracker_table.specs.Table.{Track, blank, young}
 use Rattle.boost_tracker_table.specs.Lent.{Table, tracks_in, labels_in}
-use Rattle.boost_tracker_verdict.specs.declared.refusal.Verdict.TheVariants as verdicts
+use Rattle.std.proofs.Common.{Ok}
 use Rattle.boost_tracker_verdict.specs.declared.sound.State.{State}
 use Rattle.boost_tracker_verdict.specs.Boxes.{Boxes}
 use Rattle.boost_tracker_verdict.specs.Verdict.{boxes_in, verdict}
@@ -58,7 +58,7 @@ falls-so : (like : ℕ → ℕ → Bool) (iou : List Float) (tracks : ℕ) (thre
 unfolding stands valid_match
 falls-so like iou tracks threshold p e = e
 
-module _ (s : Settings) (state : State) (t : Table) (boxes : Boxes) (out work64 work32 : ℕ) (e : verdict s state t boxes out work64 work32 ≡ verdicts.Accepted) (b : ℕ) (low : b < boxes_in boxes.values) where
+module _ (s : Settings) (state : State) (t : Table) (boxes : Boxes) (out work64 work32 : ℕ) (e : verdict s state t boxes out work64 work32 ≡ Ok tt) (b : ℕ) (low : b < boxes_in boxes.values) where
   abbrev T : List Track
   T = tracks_in t state.count
 

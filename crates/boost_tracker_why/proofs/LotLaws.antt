@@ -20,7 +20,7 @@ use Rattle.assoc_matching.specs.Matching.{Pair, boxes_of, tracks_of}
 use Rattle.assoc_assignment.specs.Assignment.{Assignment}
 use Rattle.boost_tracker_settings.specs.declared.settings.Settings.{Settings}
 use Rattle.boost_tracker_table.specs.Lent.{Table, tracks_in, labels_in}
-use Rattle.boost_tracker_verdict.specs.declared.refusal.Verdict.TheVariants.{Accepted}
+use Rattle.std.proofs.Common.{Ok}
 use Rattle.boost_tracker_verdict.specs.declared.sound.State.{State}
 use Rattle.boost_tracker_verdict.specs.Boxes.{Boxes}
 use Rattle.boost_tracker_verdict.specs.Verdict.{boxes_in, verdict}
@@ -78,7 +78,7 @@ module _ (unmatched left : List ℕ) (rejected : List Pair) (d : ℕ)
 
 -- ---- a frame
 
-module _ (s : Settings) (state : State) (t : Table) (boxes : Boxes) (out work64 work32 : ℕ) (e : verdict s state t boxes out work64 work32 ≡ Accepted) (b : ℕ) (low : b < boxes_in boxes.values) where
+module _ (s : Settings) (state : State) (t : Table) (boxes : Boxes) (out work64 work32 : ℕ) (e : verdict s state t boxes out work64 work32 ≡ Ok tt) (b : ℕ) (low : b < boxes_in boxes.values) where
   abbrev g : Stages
   g = update s state boxes (tracks_in t state.count) (labels_in t state.count)
 

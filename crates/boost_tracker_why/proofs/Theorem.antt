@@ -12,8 +12,9 @@ use Rattle.assoc_matching.specs.Answers.{zeroed}
 use Rattle.assoc.specs.Answers.{cleared}
 use Rattle.boost_tracker_settings.specs.declared.settings.Settings.{Settings}
 use Rattle.boost_tracker_table.specs.Lent.{Table, tracks_in, labels_in, Call, call_with}
-use Rattle.boost_tracker_verdict.specs.declared.refusal.Verdict.{Verdict}
-use Rattle.boost_tracker_verdict.specs.declared.refusal.Verdict.TheVariants as verdicts
+use Rattle.std.specs.Bool.{⊤}
+use Rattle.std.proofs.Common.{Result, Ok, Err}
+use Rattle.boost_tracker_verdict.specs.declared.refusal.Refusal.{Refusal as FrameRefusal}
 use Rattle.boost_tracker_verdict.specs.declared.sound.State.{State}
 use Rattle.boost_tracker_verdict.specs.Boxes.{Boxes}
 use Rattle.boost_tracker_verdict.specs.Verdict.{boxes_in, verdict, where_accepted}
@@ -22,8 +23,8 @@ use Rattle.boost_tracker_fate.specs.declared.kinds.Lot.{Lot}
 use Rattle.boost_tracker_fate.specs.declared.kinds.Lot.TheVariants.{Under, Paired, Refused, Alone}
 use Rattle.boost_tracker_fate.specs.declared.kinds.Fate.TheVariants.{Matched, Started, UnderThreshold, Rejected}
 use Rattle.boost_tracker_fate.specs.declared.kinds.Explanation.{Explanation}
-use Rattle.boost_tracker_why.specs.declared.tool.WhyAnswer.{WhyAnswer}
-use Rattle.boost_tracker_why.specs.declared.tool.WhyAnswer.TheVariants as answers
+use Rattle.boost_tracker_why.specs.declared.refusal.WhyRefusal.{WhyRefusal}
+use Rattle.boost_tracker_why.specs.declared.refusal.WhyRefusal.TheVariants.{NoBox}
 use Rattle.boost_tracker_fate.specs.Fate.{fate_number, fate_id}
 use Rattle.boost_tracker_fate.specs.Partner.{nobody}
 use Rattle.boost_tracker_why.specs.Why.{lot_of, started_id, fate_of, paired_with, partner_in, explanation}
@@ -33,7 +34,7 @@ use Rattle.boost_tracker_why.proofs.LotLaws.{retained-is}
 use Rattle.boost_tracker_why.proofs.ToldLaws.{Within, lot-within, started_id_lem}
 use Rattle.boost_tracker_why.proofs.FateLaws.{Condition, holds, one_of, in-matched, in-rejected, in_unpaired, left_out, matched_to, rejected_with, starts, started_as}
 
-module _ (s : Settings) (state : State) (t : Table) (boxes : Boxes) (out work64 work32 : ℕ) (e : verdict s state t boxes out work64 work32 ≡ verdicts.Accepted) (b : ℕ) (low : b < boxes_in boxes.values) where
+module _ (s : Settings) (state : State) (t : Table) (boxes : Boxes) (out work64 work32 : ℕ) (e : verdict s state t boxes out work64 work32 ≡ Ok tt) (b : ℕ) (low : b < boxes_in boxes.values) where
   abbrev labels : List ℕ
   labels = labels_in t state.count
 
@@ -111,26 +112,24 @@ module _ (s : Settings) (state : State) (t : Table) (boxes : Boxes) (room b : �
   of_box = explanation (update s state boxes (tracks_in t state.count) (labels_in t state.count)) boxes (labels_in t state.count) b
 
   -- what an answer tells, and whether it does
-  abbrev told_in : WhyAnswer → Explanation
-  told_in (answers.Explained x) = x
-  told_in (answers.Refused why) = of_box
-  told_in answers.NoBox = of_box
+  abbrev told_in : Result Explanation WhyRefusal → Explanation
+  told_in (Ok x) = x
+  told_in (Err why) = of_box
 
-  abbrev silent : WhyAnswer → ℕ
-  silent (answers.Explained x) = 0
-  silent (answers.Refused why) = 1
-  silent answers.NoBox = 1
+  abbrev silent : Result Explanation WhyRefusal → ℕ
+  silent (Ok x) = 0
+  silent (Err why) = 1
 
   -- every call of `why`, by its contract, that explains a box
-  pub explained : {x : Explanation} {l' : Work} → call_with (answers.Explained x) l' ≡ why_call s state boxes t room b l
+  pub explained : {x : Explanation} {l' : Work} → call_with (Ok x) l' ≡ why_call s state boxes t room b l
       → FateFacts s state boxes (labels_in t state.count) (update s state boxes (tracks_in t state.count) (labels_in t state.count)) b x
   unfolding why_call
-  explained {x} {l'} ends = by_cases (verdict s state t boxes room (length l.work64) (length l.work32)) refl (ltb b (boxes_in boxes.values)) refl (ap (λ (k : Call WhyAnswer Work). k.answer) ends)
+  explained {x} {l'} ends = by_cases (verdict s state t boxes room (length l.work64) (length l.work32)) refl (ltb b (boxes_in boxes.values)) refl (ap (λ (k : Call (Result Explanation WhyRefusal) Work). k.answer) ends)
     where
-      by_cases : (v : Verdict) → verdict s state t boxes room (length l.work64) (length l.work32) ≡ v → (w : Bool) → ltb b (boxes_in boxes.values) ≡ w
-          → answers.Explained x ≡ (where_accepted v (cond w (call_with (answers.Explained of_box) (work_with (zeroed l.work64) (cleared l.work32))) (call_with answers.NoBox l)) (call_with (turned_down v) l)).answer
+      by_cases : (v : Result ⊤ FrameRefusal) → verdict s state t boxes room (length l.work64) (length l.work32) ≡ v → (w : Bool) → ltb b (boxes_in boxes.values) ≡ w
+          → Ok x ≡ (where_accepted v (cond w (call_with (Ok of_box) (work_with (zeroed l.work64) (cleared l.work32))) (call_with (Err NoBox) l)) (call_with (turned_down v) l)).answer
           → FateFacts s state boxes (labels_in t state.count) (update s state boxes (tracks_in t state.count) (labels_in t state.count)) b x
-      by_cases verdicts.Accepted e true q h =
+      by_cases (Ok tt) e true q h =
           rw (ap told_in h) (fate_facts s state t boxes room (length l.work64) (length l.work32) e b (ltb-true b (boxes_in boxes.values) q))
-      by_cases verdicts.Accepted e false q h = let f : ◌≡◌ {A = ℕ} 0 1 = ap silent h in absurd (omega arith)
-      by_cases (verdicts.Refused why) e w q h = let f : ◌≡◌ {A = ℕ} 0 1 = ap silent h in absurd (omega arith)
+      by_cases (Ok tt) e false q h = let f : ◌≡◌ {A = ℕ} 0 1 = ap silent h in absurd (omega arith)
+      by_cases (Err why) e w q h = let f : ◌≡◌ {A = ℕ} 0 1 = ap silent h in absurd (omega arith)

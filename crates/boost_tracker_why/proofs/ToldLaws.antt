@@ -17,7 +17,7 @@ use Rattle.assoc_assignment.specs.Assignment.{Assignment}
 use Rattle.boost_tracker_settings.specs.declared.settings.Settings.{Settings}
 use Rattle.boost_tracker_table.specs.Table.{Track}
 use Rattle.boost_tracker_table.specs.Lent.{Table, tracks_in, labels_in}
-use Rattle.boost_tracker_verdict.specs.declared.refusal.Verdict.TheVariants as verdicts
+use Rattle.std.proofs.Common.{Ok}
 use Rattle.boost_tracker_verdict.specs.declared.sound.State.{State}
 use Rattle.boost_tracker_verdict.specs.Boxes.{Boxes}
 use Rattle.boost_tracker_verdict.specs.Verdict.{boxes_in, verdict}
@@ -47,7 +47,7 @@ Within held n (Paired t) = t < held
 Within held n (Refused t place) = (t < held) × (place < n)
 Within held n (Alone place) = place < n
 
-module _ (s : Settings) (state : State) (t : Table) (boxes : Boxes) (out work64 work32 : ℕ) (e : verdict s state t boxes out work64 work32 ≡ verdicts.Accepted) (b : ℕ) (low : b < boxes_in boxes.values) where
+module _ (s : Settings) (state : State) (t : Table) (boxes : Boxes) (out work64 work32 : ℕ) (e : verdict s state t boxes out work64 work32 ≡ Ok tt) (b : ℕ) (low : b < boxes_in boxes.values) where
   abbrev T : List Track
   T = tracks_in t state.count
 

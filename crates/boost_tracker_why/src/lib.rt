@@ -2,7 +2,9 @@
 #![tactic(auto)]
 
 mod met;
+mod refusal;
 mod tool;
 
 pub use boost_tracker_fate::{Explanation, Fate, Lot, Partner};
-pub use tool::{WhyAnswer, why};
+pub use refusal::WhyRefusal;
+pub use tool::why;

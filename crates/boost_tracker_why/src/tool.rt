@@ -7,60 +7,18 @@ ghost use Rattle.boost_tracker_verdict.specs.Boxes.{boxes_with};
 ghost use Rattle.boost_tracker_verdict.specs.Verdict.{boxes_in};
 ghost use Rattle.boost_tracker_fate.specs.Private.{place_of};
 ghost use Rattle.boost_tracker_pairs.specs.Pairs.{inputs_with, roomy_for};
-ghost use Rattle.boost_tracker_why.specs.Answers.{why_number, turned_down, work_with, why_call};
+ghost use Rattle.boost_tracker_why.specs.Answers.{work_with, why_call};
 ghost use Rattle.boost_tracker_why.specs.Private.{partner_by, started_at, Answerable, answered_by, Asked, explained_call};
 
 use crate::met::paired_with;
-use assoc::AssignmentAnswer;
-use boost_tracker_fate::{
-    Explanation, Lot, Partner, has_track, lot_of, nobody, place_of, told, track_of,
-};
+use crate::refusal::WhyRefusal;
+use assoc::AssignmentCounts;
+use boost_tracker_fate::{Explanation, Lot, Partner, lot_of, nobody, place_of, told, track_of};
 use boost_tracker_pairs::{Prepared, pairs, prepare};
 use boost_tracker_seen::Seen;
 use boost_tracker_settings::Settings;
-use boost_tracker_verdict::{Refusal, State, Verdict};
+use boost_tracker_verdict::State;
 use records::BOX_VALUES;
-
-#[derive(Clone, Copy)]
-pub enum WhyAnswer {
-    Explained(Explanation),
-    // why the frame would be turned down
-    Refused(Refusal),
-    // 81: the index is not below the number of boxes
-    NoBox,
-}
-
-// Both are 0 where a box is explained; the index goes with 16 and 20.
-impl WhyAnswer {
-    pub fn number(self) -> u32
-        ensures { result ≡ (why_number self).0 }
-    {
-        match self {
-            WhyAnswer::Explained(_) => 0,
-            WhyAnswer::Refused(why) => why.number(),
-            WhyAnswer::NoBox => 81,
-        }
-    }
-
-    pub fn index(self) -> u64
-        ensures { result ≡ (why_number self).1 }
-    {
-        match self {
-            WhyAnswer::Explained(_) => 0,
-            WhyAnswer::Refused(why) => why.index(),
-            WhyAnswer::NoBox => 0,
-        }
-    }
-}
-
-fn turned_down(verdict: Verdict) -> WhyAnswer
-    ensures { result ≡ turned_down verdict }
-{
-    match verdict {
-        Verdict::Accepted => WhyAnswer::NoBox,
-        Verdict::Refused(why) => WhyAnswer::Refused(why),
-    }
-}
 
 fn partner_in(
     lot: Lot,
@@ -75,11 +33,10 @@ fn partner_in(
     requires { b * box_values + box_values ≤ length boxes.now }
     ensures { result ≡ partner_by floats.now counters.now labels.now held boxes.now box_labels.now b lot }
 {
-    if has_track(lot) {
-        let t = track_of(lot);
-        return paired_with(floats, counters, labels, held, boxes, box_labels, b, t);
+    match track_of(lot) {
+        Some(t) => paired_with(floats, counters, labels, held, boxes, box_labels, b, t),
+        None => nobody(),
     }
-    nobody()
 }
 
 // By the last id given: new ids follow the order of the unmatched list.
@@ -90,12 +47,12 @@ fn started_id(lot: Lot, last: u64) -> u64
     last + place_of(lot) as u64 + 1
 }
 
-// What the pairs that step 5 found say of a box. No stage refuses an accepted frame.
+// What the pairs that step 5 found say of a box.
 fn answered(
     settings: Settings,
     state: State,
     seen: Seen,
-    paired: AssignmentAnswer,
+    counts: AssignmentCounts,
     floats: &[f32],
     counters: &[u64],
     labels: &[u8],
@@ -106,15 +63,12 @@ fn answered(
     pair_tracks: &[usize],
     unmatched: &[usize],
     left: &[usize],
-) -> WhyAnswer
+) -> Explanation
     requires { Answerable state (table_with floats.now counters.now labels.now) (boxes_with boxes.now box_labels.now) index
-        (lists_with pair_boxes.now pair_tracks.now unmatched.now left.now) paired }
+        (lists_with pair_boxes.now pair_tracks.now unmatched.now left.now) counts }
     ensures { result ≡ answered_by settings state seen (table_with floats.now counters.now labels.now) (boxes_with boxes.now box_labels.now) index
-        (lists_with pair_boxes.now pair_tracks.now unmatched.now left.now) paired }
+        (lists_with pair_boxes.now pair_tracks.now unmatched.now left.now) counts }
 {
-    let AssignmentAnswer::Assigned(counts) = paired else {
-        return WhyAnswer::Refused(Refusal::WorkShort);
-    };
     let held = state.count;
     let matched = counts.pairs;
     let started = counts.detections;
@@ -140,10 +94,10 @@ fn answered(
     );
     let score = boxes[index * BOX_VALUES + 4];
     let id = started_id(lot, state.last);
-    WhyAnswer::Explained(told(lot, partner, id, score, seen.once, seen.twice))
+    told(lot, partner, id, score, seen.once, seen.twice)
 }
 
-// Step 5 of what `prepare` answered of an accepted frame and left in the lists, and what its pairs say of the box.
+// Step 5 of what `prepare` answered of an accepted frame and left in the lists, which is never refused, and what its pairs say of the box.
 fn conclude(
     settings: Settings,
     state: State,
@@ -161,19 +115,18 @@ fn conclude(
     confs: &[f32],
     work64: &mut [f64],
     work32: &mut [f32],
-) -> WhyAnswer
+) -> Explanation
     requires { Asked settings state (boxes_with boxes.now box_labels.now) (table_with floats.now counters.now labels.now) index prepared
         (inputs_with corners.now kept_labels.now scores.now trks.now confs.now) (work_with work64.old work32.old) }
     ensures { call_with result (work_with work64.new work32.new)
         ≡ explained_call settings state (boxes_with boxes.now box_labels.now) (table_with floats.now counters.now labels.now) index
         (work_with work64.old work32.old) }
 {
-    let seen = prepared.seen;
     let mut pair_boxes = [0usize; 255];
     let mut pair_tracks = [0usize; 255];
     let mut unmatched = [0usize; 255];
     let mut left = [0usize; 255];
-    let paired = pairs(
+    let counts = pairs(
         settings,
         prepared.kept,
         state.count,
@@ -189,12 +142,13 @@ fn conclude(
         &mut left,
         work64,
         work32,
-    );
+    )
+    .unwrap();
     answered(
         settings,
         state,
-        seen,
-        paired,
+        prepared.seen,
+        counts,
         floats,
         counters,
         labels,
@@ -226,7 +180,7 @@ fn explain(
     confs: &mut [f32],
     work64: &mut [f64],
     work32: &mut [f32],
-) -> WhyAnswer
+) -> Result<Explanation, WhyRefusal>
     requires given { index < boxes_in boxes.now }
     requires roomy { roomy_for (inputs_with corners.old kept_labels.old scores.old trks.old confs.old) ≡ true }
     ensures { call_with result (work_with work64.new work32.new)
@@ -250,12 +204,8 @@ fn explain(
         trks,
         confs,
         work32,
-    );
-    let verdict = prepared.verdict;
-    let Verdict::Accepted = verdict else {
-        return turned_down(verdict);
-    };
-    conclude(
+    )?;
+    Ok(conclude(
         settings,
         state,
         prepared,
@@ -272,7 +222,7 @@ fn explain(
         confs,
         work64,
         work32,
-    )
+    ))
 }
 
 // The fate of a box, with the table, the frame count and the output as they were. `room` is the length of the output that the caller has.
@@ -288,13 +238,13 @@ pub fn why(
     work64: &mut [f64],
     work32: &mut [f32],
     index: usize,
-) -> WhyAnswer
+) -> Result<Explanation, WhyRefusal>
     ensures { call_with result (work_with work64.new work32.new)
         ≡ why_call settings state (boxes_with boxes.now box_labels.now) (table_with floats.now counters.now labels.now) room index
         (work_with work64.old work32.old) }
 {
     if boxes.len() / BOX_VALUES <= index {
-        return turned_down(boost_tracker_verdict::frame_verdict(
+        boost_tracker_verdict::frame_verdict(
             settings,
             state,
             floats,
@@ -305,7 +255,8 @@ pub fn why(
             room,
             work64.len(),
             work32.len(),
-        ));
+        )?;
+        return Err(WhyRefusal::NoBox);
     }
     let mut corners = [0.0f32; 1020];
     let mut kept_labels = [0u8; 255];

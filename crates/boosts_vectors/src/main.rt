@@ -40,8 +40,8 @@ fn params(w: &[u64; 24]) -> assoc::AssociateParams {
 fn boosted(line: Line, w: &[u64; 24], lists: &[f32], ts: &[u32], k: &[u8], l: &[u8]) -> Line {
     let mut values = [0.0f32; 255];
     let mut cells = [0.0f32; 65025];
-    let scores = lent::floats(&mut values, w[9]);
-    let work = lent::floats(&mut cells, w[19]);
+    let scores = lent::first(&mut values, w[9]);
+    let work = lent::first(&mut cells, w[19]);
     input::floats(255, 0.0, scores);
     let n = w[9] as usize;
     let m = w[10] as usize;
@@ -51,13 +51,25 @@ fn boosted(line: Line, w: &[u64; 24], lists: &[f32], ts: &[u32], k: &[u8], l: &[
     let x = part::floats(lists, w[16], w[17]);
     let s = part::floats(lists, w[17], w[18]);
     if (w[1] % 2 == 1) & (m > 0) {
-        boost_tracker_mh_dist::get_mh_dist_matrix(n, m, a, x, s, work);
-        boost_tracker_dlo::dlo_confidence_boost(settings(w), n, m, a, t, c, ts, k, l, work, scores);
+        let _ = boost_tracker_mh_dist::get_mh_dist_matrix(n, m, a, x, s, work);
+        let _ = boost_tracker_dlo::dlo_confidence_boost(
+            settings(w),
+            n,
+            m,
+            a,
+            t,
+            c,
+            ts,
+            k,
+            l,
+            work,
+            scores,
+        );
     }
     let after_dlo = line.digest(digest::floats(digest::START, scores));
     if (w[1] / 2 % 2 == 1) & (m > 0) {
-        boost_tracker_mh_dist::get_mh_dist_matrix(n, m, a, x, s, work);
-        boost_tracker_duo::duo_confidence_boost(w[8], float(w[2]), n, m, a, work, scores);
+        let _ = boost_tracker_mh_dist::get_mh_dist_matrix(n, m, a, x, s, work);
+        let _ = boost_tracker_duo::duo_confidence_boost(w[8], float(w[2]), n, m, a, work, scores);
     }
     let after_duo = after_dlo.digest(digest::floats(digest::START, scores));
     let counted = after_duo.number(w[11]);
@@ -67,22 +79,22 @@ fn boosted(line: Line, w: &[u64; 24], lists: &[f32], ts: &[u32], k: &[u8], l: &[
 // Joins the number of each score that is at least `least`.
 fn retained(least: f32, scores: &[f32]) -> u64 {
     let mut sum = digest::START;
-    for k in 0..scores.len() {
-        if scores[k] >= least {
+    for (k, score) in scores.iter().enumerate() {
+        if *score >= least {
             sum = digest::join(sum, k as u64);
         }
     }
     sum
 }
 
-fn answer(line: Line, answer: assoc::AssignmentAnswer) -> Line {
+fn answer(line: Line, answer: Result<assoc::AssignmentCounts, assoc::Refusal>) -> Line {
     match answer {
-        assoc::AssignmentAnswer::Assigned(c) => {
+        Ok(c) => {
             let pairs = line.number(c.pairs as u64).number(c.detections as u64);
             let turns = pairs.number(c.tracks as u64).number(c.turns as u64);
             turns.number(c.scans as u64)
         }
-        assoc::AssignmentAnswer::Refused(_) => line.text(b" refused"),
+        Err(_) => line.text(b" refused"),
     }
 }
 
@@ -95,13 +107,13 @@ fn paired(line: Line, w: &[u64; 24], lists: &[f32], k: &[u8], l: &[u8]) -> Line 
     let mut tracks = [7777usize; 255];
     let mut doubles = [0.0f64; 65025];
     let mut floats = [0.0f32; 260100];
-    let d = lent::floats(&mut cells, w[20]);
-    let p = lent::numbers(&mut pairs, 255);
-    let q = lent::numbers(&mut more, 255);
-    let r = lent::numbers(&mut boxes, 255);
-    let s = lent::numbers(&mut tracks, 255);
-    let u = lent::doubles(&mut doubles, 65025);
-    let v = lent::floats(&mut floats, 260100);
+    let d = lent::first(&mut cells, w[20]);
+    let p = lent::first(&mut pairs, 255);
+    let q = lent::first(&mut more, 255);
+    let r = lent::first(&mut boxes, 255);
+    let s = lent::first(&mut tracks, 255);
+    let u = lent::first(&mut doubles, 65025);
+    let v = lent::first(&mut floats, 260100);
     let n = w[11] as usize;
     let m = w[10] as usize;
     let b = part::floats(lists, w[12], w[13]);
@@ -110,7 +122,7 @@ fn paired(line: Line, w: &[u64; 24], lists: &[f32], k: &[u8], l: &[u8]) -> Line 
     let c = part::floats(lists, w[15], w[16]);
     let x = part::floats(lists, w[16], w[17]);
     let y = part::floats(lists, w[17], w[18]);
-    boost_tracker_mh_dist::get_mh_dist_matrix(n, m, b, x, y, d);
+    let _ = boost_tracker_mh_dist::get_mh_dist_matrix(n, m, b, x, y, d);
     let measured = line.digest(digest::floats(digest::START, d));
     let said = assoc::associate(params(w), n, m, b, t, d, c, e, k, l, p, q, r, s, u, v);
     let sum = digest::numbers(digest::numbers(digest::START, p), q);
@@ -129,8 +141,8 @@ fn replay() -> bool {
     let mut of_boxes = [0u8; 255];
     let mut of_tracks = [0u8; 255];
     let mut of_kept = [0u8; 255];
-    let times = lent::counts(&mut since, w[10]);
-    let lists = lent::floats(&mut floats, w[18]);
+    let times = lent::first(&mut since, w[10]);
+    let lists = lent::first(&mut floats, w[18]);
     input::counts(255, 0, times);
     input::floats(5610, 0.0, lists);
     let k = input::bytes(&mut of_boxes, w[9]);
@@ -142,9 +154,11 @@ fn replay() -> bool {
 }
 
 // A proved loop has to end, and nothing says that the input does: the count is one that no run uses up.
+// Kept: the call is all in which such a loop differs from another program's.
 fn main() {
-    let mut records = u64::MAX;
-    while records > 0 && replay() {
-        records -= 1;
+    for _ in 0..u64::MAX {
+        if !replay() {
+            return;
+        }
     }
 }

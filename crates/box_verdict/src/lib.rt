@@ -1,4 +1,4 @@
-// Which boxes a frame can take: document 01's 16, of one box.
+// Which boxes a frame can take, of one box.
 #![tactic(auto)]
 
 ghost use Rattle.std.specs.Prelude.{◌≡◌};
@@ -9,10 +9,11 @@ ghost use Rattle.box_verdict.specs.Box.{beyond, bad_box};
 pub fn finite(x: f32) -> bool
     ensures { result ≡ ieee_finite x }
 {
-    x - x == 0.0
+    x.is_finite()
 }
 
 // Strictly beyond 65536 in magnitude.
+#[tactic(auto, unfolding(crate::specs::Box::beyond))]
 pub fn beyond(x: f32) -> bool
     ensures { result ≡ beyond x }
 {
@@ -20,6 +21,7 @@ pub fn beyond(x: f32) -> bool
 }
 
 // No frame takes a box of these values.
+#[tactic(auto, unfolding(crate::specs::Box::bad_box))]
 pub fn bad_box(left: f32, top: f32, width: f32, height: f32, score: f32) -> bool
     ensures { result ≡ bad_box left top width height score }
 {

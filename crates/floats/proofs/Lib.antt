@@ -1,5 +1,4 @@
 -- Theorem proves what specs/Laws.antt states, by the files from Division to Unsigned; the others are what the proofs of more than one function use.
--- Positive is for upper layers too: it says what the test for a number above zero and finite gives.
 pub mod Theorem
 pub mod Division
 pub mod Digits
@@ -9,7 +8,6 @@ pub mod Squares
 pub mod Nearest
 pub mod Series
 pub mod Unsigned
-pub mod Positive
 pub mod Signs
 pub mod Pack
 pub mod Rounding

@@ -7,7 +7,7 @@ ghost use Rattle.floats.specs.Private.{Splits, Summed};
 pub fn exp(a: f32) -> f32
     ensures { result ≡ Exponential.exp a }
 {
-    if a != a {
+    if a.is_nan() {
         return a;
     }
     if a >= 89.0 {

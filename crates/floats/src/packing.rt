@@ -7,6 +7,7 @@ ghost use Rattle.std.specs.Float.Ieee.Scale.{finite};
 ghost use Rattle.std.specs.Float.Ieee.Nearest.{closest};
 ghost use Rattle.floats.specs.Private.{Parts};
 
+// Kept: `negative` is a part of the number, its sign, and says nothing of the other two, so that no Option or Result holds it.
 #[derive(Drop)]
 pub(crate) struct Unpacked {
     pub(crate) negative: bool,
@@ -19,7 +20,7 @@ pub(crate) fn parts(a: f32) -> Unpacked
     requires { T (finite a) }
     ensures { Parts a result.negative result.digits result.place }
 {
-    let bits = f32::to_bits(a);
+    let bits = a.to_bits();
     let field = bits % 0x8000_0000 / 0x80_0000;
     let low = bits % 0x80_0000;
     if field == 0 {
@@ -59,16 +60,9 @@ pub(crate) fn rounded(s: u64, p: u64) -> f32
     requires fact_3 { p < 512 }
     ensures { result ≡ round binary32 false (s * 2 ^ p) (2 ^ 181) }
 {
-    let top = (64 - u64::leading_zeros(s)) as u64 + p;
-    let dropped = over(top, 56);
+    let top = (64 - s.leading_zeros()) as u64 + p;
+    let dropped = top.saturating_sub(56);
     packed(shifted(s, 32 + dropped - p), dropped)
-}
-
-// a - b, or 0 where b is larger.
-fn over(a: u64, b: u64) -> u64
-    ensures { result ≡ a - b }
-{
-    if b < a { a - b } else { 0 }
 }
 
 // s / 2 ^ shift to the nearest whole number, a tie to the even one. Half a unit less one is added, and one more where what is kept is odd:

@@ -7,7 +7,7 @@ ghost use Rattle.floats.specs.Private.{Significant};
 pub fn sqrt(x: f32) -> f32
     ensures { result ≡ Root.root x }
 {
-    if x != x {
+    if x.is_nan() {
         return x;
     }
     if x == 0.0 {
@@ -28,7 +28,7 @@ fn rooted(digits: u32, place: u32) -> f32
     requires { Significant digits place }
     ensures { result ≡ Root.root_of_squares (digits * 2 ^ place * 2 ^ 149) }
 {
-    let length = 32 - u32::leading_zeros(digits);
+    let length = 32 - digits.leading_zeros();
     let dropped = (length + place + 150) / 2 - 24;
     let n = (digits as u64) << (place + 149 - 2 * dropped);
     let q = whole_root(n);
@@ -45,11 +45,12 @@ fn whole_root(n: u64) -> u64
     ensures { result ≡ Root.whole_root 24 n }
 {
     let mut r = guess(n);
+    // Kept: it goes down or up from the guess, and counts nothing, so that there is no range to go over.
     loop {
         if n < r * r {
-            r = r - 1;
+            r -= 1;
         } else if (r + 1) * (r + 1) <= n {
-            r = r + 1;
+            r += 1;
         } else {
             return r;
         }
@@ -65,13 +66,13 @@ fn guess(n: u64) -> u64
 {
     let x = ((n >> 16) % 0x1_0000_0000) as u32;
     let eighth = (x >> 29) as usize;
-    let line = std::num::wrapping_sub_u32(HEIGHTS[eighth] << 18, high(SLOPES[eighth] << 18, x));
+    let line = (HEIGHTS[eighth] << 18).wrapping_sub(high(SLOPES[eighth] << 18, x));
     let y = high(
         line,
-        std::num::wrapping_sub_u32(0x2fff_fffe, high(high(line, line), x)),
+        0x2fff_fffe_u32.wrapping_sub(high(high(line, line), x)),
     );
     let s = high(x, y) >> 3;
-    let rest = std::num::wrapping_sub_u64(n, product(s, s));
+    let rest = n.wrapping_sub(product(s, s));
     let root = s + (high(((rest >> 8) % 0x1_0000_0000) as u32, y) >> 12);
     if root < 0x100_0000 {
         root as u64

@@ -1,4 +1,4 @@
-// Larger and smaller, where a not-a-number gives way to a number, and the magnitude.
+// Larger and smaller, where a not-a-number gives way to a number, and the magnitude. The library's `max` and `min` leave open which of 0 and -0 they give; here it is the first.
 ghost use Rattle.std.specs.Prelude.{◌≡◌};
 ghost use Rattle.floats_pick.specs.Pick as Pick;
 
@@ -20,8 +20,8 @@ pub fn min(a: f32, b: f32) -> f32
 fn chosen(beats: bool, first: f32, second: f32) -> f32
     ensures { result ≡ Pick.choose beats first second }
 {
-    if first != first {
-        if second != second { first } else { second }
+    if first.is_nan() {
+        if second.is_nan() { first } else { second }
     } else if beats {
         second
     } else {
@@ -33,8 +33,8 @@ fn chosen(beats: bool, first: f32, second: f32) -> f32
 pub fn abs(x: f32) -> f32
     ensures { result ≡ Pick.abs x }
 {
-    if x != x {
+    if x.is_nan() {
         return x;
     }
-    f32::from_bits(f32::to_bits(x) % 0x8000_0000)
+    f32::from_bits(x.to_bits() % 0x8000_0000)
 }

@@ -9,9 +9,9 @@ pub fn powi(c: f32, e: i32) -> f32
     ensures { result ≡ Power.powi c e }
 {
     if e < 0 {
-        1.0 / raised(c, ((-1 - e) as u32) + 1)
+        1.0 / raised(c, e.unsigned_abs())
     } else {
-        raised(c, e as u32)
+        raised(c, e.unsigned_abs())
     }
 }
 
@@ -22,12 +22,13 @@ fn raised(c: f32, n: u32) -> f32
     let mut square = c;
     let mut left = n;
     let mut r = 1.0f32;
+    // Kept: it halves what is left of n, and counts nothing; a range over the bits of n would need their number first.
     while left != 0 {
         if left % 2 == 1 {
-            r = r * square;
+            r *= square;
         }
-        square = square * square;
-        left = left / 2;
+        square *= square;
+        left /= 2;
     }
     r
 }

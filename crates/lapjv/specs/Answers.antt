@@ -1,13 +1,10 @@
--- What a call of `lapjv` answers, and what it leaves in the two lent slices. The numbers are document 01's, "When a call is turned down", Assignment.
-use Rattle.std.specs.Prelude.{◌≡◌, cond, List, ℕ, ◌*◌, ◌-◌, ◌/◌, ◌≤◌, ltb, eqb, length, Float}
+-- What a call of `lapjv` answers, and what it leaves in the two lent slices.
+use Rattle.std.specs.Prelude.{◌≡◌, cond, List, ℕ, ◌*◌, ◌-◌, ◌/◌, ◌≤◌, ltb, eqb, length, Float, Result, Ok, Err, ⊤}
 use Rattle.lapjv_definition.specs.Bounds.{Paired}
 use Rattle.lapjv_definition.specs.Lapjv.{lapjv}
-use Rattle.lapjv.specs.declared.Answer.TheVariants.{Assigned, Refused}
-use Rattle.lapjv.specs.declared.Answer.{Answer}
+pub use Rattle.lapjv_definition.specs.declared.Counts.{Counts}
 use Rattle.lapjv.specs.declared.Refusal.TheVariants.{NoSide, SideAbove255, WrongSize}
 use Rattle.lapjv.specs.declared.Refusal.{Refusal}
-use Rattle.lapjv.specs.declared.Verdict.TheVariants.{Fits, Unfit}
-use Rattle.lapjv.specs.declared.Verdict.{Verdict}
 
 -- 21 side 0; 22 side above 255; 23 the cost slice not n × n, or the row or column slice not n long
 unfoldable pub refusal_number : Refusal → ℕ
@@ -16,36 +13,36 @@ refusal_number SideAbove255 = 22
 refusal_number WrongSize = 23
 
 -- side n, with slices of so many costs, rows and columns: the first of the three that applies
-unfoldable pub verdict_of : ℕ → ℕ → ℕ → ℕ → Verdict
+unfoldable pub verdict_of : ℕ → ℕ → ℕ → ℕ → Result ⊤ Refusal
 verdict_of n costs xs ys =
-    cond (eqb n 0) (Unfit NoSide)
-    (cond (ltb 255 n) (Unfit SideAbove255)
-    (cond (eqb costs (n * n)) (cond (eqb xs n) (cond (eqb ys n) Fits (Unfit WrongSize)) (Unfit WrongSize)) (Unfit WrongSize)))
+    cond (eqb n 0) (Err NoSide)
+    (cond (ltb 255 n) (Err SideAbove255)
+    (cond (eqb costs (n * n)) (cond (eqb xs n) (cond (eqb ys n) (Ok tt) (Err WrongSize)) (Err WrongSize)) (Err WrongSize)))
 
--- what an answer says: document 01's number, 0 where the call is accepted, and the counts, both 0 where it is refused
-unfoldable pub number_of : Answer → ℕ
-number_of (Assigned c) = 0
-number_of (Refused why) = refusal_number why
+-- what an answer says: the refusal's number, 0 where the call is accepted, and the counts, both 0 where it is refused
+unfoldable pub number_of : Result Counts Refusal → ℕ
+number_of (Ok c) = 0
+number_of (Err why) = refusal_number why
 
-unfoldable pub turns_of : Answer → ℕ
-turns_of (Assigned c) = c.turns
-turns_of (Refused why) = 0
+unfoldable pub turns_of : Result Counts Refusal → ℕ
+turns_of (Ok c) = c.turns
+turns_of (Err why) = 0
 
-unfoldable pub scans_of : Answer → ℕ
-scans_of (Assigned c) = c.scans
-scans_of (Refused why) = 0
+unfoldable pub scans_of : Result Counts Refusal → ℕ
+scans_of (Ok c) = c.scans
+scans_of (Err why) = 0
 
 -- the answer
-unfoldable pub answer_for : ℕ → List Float → Verdict → Answer
-answer_for n cost Fits = Assigned (record { turns = (lapjv n cost).turns; scans = (lapjv n cost).scans })
-answer_for n cost (Unfit why) = Refused why
+unfoldable pub answer_for : ℕ → List Float → Result ⊤ Refusal → Result Counts Refusal
+answer_for n cost (Ok _) = Ok (record { turns = (lapjv n cost).turns; scans = (lapjv n cost).scans })
+answer_for n cost (Err why) = Err why
 
 -- a lent slice at exit: what the definition gives, or what it was where the call is refused
-unfoldable pub lent_after : Verdict → List ℕ → List ℕ → List ℕ
-lent_after Fits new old = new
-lent_after (Unfit why) new old = old
+unfoldable pub lent_after : Result ⊤ Refusal → List ℕ → List ℕ → List ℕ
+lent_after (Ok _) new old = new
+lent_after (Err why) new old = old
 
-pub record Answered (n : ℕ) (cost : List Float) (x y : List ℕ) (r : Answer) (x' y' : List ℕ) : Type 0 where
+pub record Answered (n : ℕ) (cost : List Float) (x y : List ℕ) (r : Result Counts Refusal) (x' y' : List ℕ) : Type 0 where
   -- the answer and both slices are the definition's; a refused call changes nothing
   pub answer : r ≡ answer_for n cost (verdict_of n (length cost) (length x) (length y))
   pub xs : x' ≡ lent_after (verdict_of n (length cost) (length x) (length y)) (lapjv n cost).x x

@@ -1,9 +1,10 @@
 // `ca_dense`, lines 284 to 317 of lapjv.rs.
 ghost use Rattle.std.specs.Prelude.{◌≡◌, ℕ, ◌<◌, ◌≤◌, length, get_or};
 ghost use Rattle.lapjv_definition.specs.Ca.{augmented, augment_from, assigned, ca_dense};
-ghost use Rattle.lapjv_definition.specs.Invariant.{Square, Holed, CaOk};
+ghost use Rattle.lapjv_definition.specs.Invariant.{Holed, CaOk};
 
 use crate::path::find_path_dense;
+use lapjv_reduction::cost::Costs;
 use lapjv_reduction::entry::row_of;
 
 // Lines 303 to 314. A path has at most n rows: `Holed` says that it ends within n passes.
@@ -26,8 +27,7 @@ fn augment(n: usize, free_row: usize, j0: usize, pred: &[usize], x: &mut [usize]
 }
 
 pub(crate) fn ca_dense(
-    n: usize,
-    cost: &[f64],
+    costs: Costs,
     n_free_rows: usize,
     free_rows: &[usize],
     x: &mut [usize],
@@ -37,17 +37,17 @@ pub(crate) fn ca_dense(
     d: &mut [f64],
     cols: &mut [usize],
 ) -> usize
-    requires { Square n cost.now × (n_free_rows ≤ n) × ((k : ℕ) → k < n_free_rows → get_or free_rows.now k 0 < n) × (length free_rows.now ≡ n) × (length v.old ≡ n) × (length pred.old ≡ n) × (length d.old ≡ n) × (length cols.old ≡ n)
-        × CaOk n n_free_rows free_rows.now 0 (assigned x.old y.old v.old 0) }
+    requires { (n_free_rows ≤ costs.side) × ((k : ℕ) → k < n_free_rows → get_or free_rows.now k 0 < costs.side) × (length free_rows.now ≡ costs.side) × (length v.old ≡ costs.side) × (length pred.old ≡ costs.side) × (length d.old ≡ costs.side) × (length cols.old ≡ costs.side)
+        × CaOk costs.side n_free_rows free_rows.now 0 (assigned x.old y.old v.old 0) }
     ensures { assigned x.new y.new v.new result
-        ≡ ca_dense n cost.now n_free_rows free_rows.now x.old y.old v.old }
+        ≡ ca_dense costs.entry.side costs.entry.cells.now n_free_rows free_rows.now x.old y.old v.old }
 {
     let mut scans = 0;
     for row_n in 0..n_free_rows {
         let free_row = free_rows[row_n];
-        let p = find_path_dense(n, cost, free_row, y, v, pred, d, cols);
+        let p = find_path_dense(costs, free_row, y, v, pred, d, cols);
         scans += p.scans;
-        augment(n, free_row, p.final_j, pred, x, y);
+        augment(costs.side, free_row, p.final_j, pred, x, y);
     }
     scans
 }

@@ -4,7 +4,6 @@
 
 ghost use Rattle.std.specs.Prelude.{◌≡◌, length, replicate};
 ghost use Rattle.lapjv_definition.specs.Halves.{assigning};
-ghost use Rattle.lapjv_definition.specs.Invariant.{Square};
 ghost use Rattle.lapjv_definition.specs.Lapjv.{assignment, lapjv};
 
 mod ca;
@@ -14,19 +13,14 @@ mod path;
 mod scan;
 
 use ca::ca_dense;
+use lapjv_definition::Counts;
+use lapjv_reduction::cost::Costs;
 use lapjv_reduction::{fits, reduction};
 
-// The row turns and column scans of a call.
-#[derive(Drop)]
-pub struct Tally {
-    pub turns: usize,
-    pub scans: usize,
-}
-
+// Kept: the slices stand one by one, here and in what this calls: a struct of `&mut` slices needs a clause a field wherever it is lent on, and is no plainer.
 // Both halves, in work slices of n. With no free row `ca_dense` does nothing and counts nothing, so the test `ret > 0` is left out.
 fn solve(
-    n: usize,
-    cost: &[f64],
+    costs: Costs,
     x: &mut [usize],
     y: &mut [usize],
     free_rows: &mut [usize],
@@ -34,32 +28,36 @@ fn solve(
     pred: &mut [usize],
     d: &mut [f64],
     cols: &mut [usize],
-) -> Tally
-    requires { Square n cost.now × (length x.old ≡ n) × (length y.old ≡ n) × (free_rows.old ≡ replicate n 0) × (length v.old ≡ n)
-        × (length pred.old ≡ n) × (length d.old ≡ n) × (length cols.old ≡ n) }
-    ensures { assignment 0 x.new y.new result.turns result.scans ≡ lapjv n cost.now }
+) -> Counts
+    requires { (length x.old ≡ costs.side) × (length y.old ≡ costs.side) × (free_rows.old ≡ replicate costs.side 0) × (length v.old ≡ costs.side)
+        × (length pred.old ≡ costs.side) × (length d.old ≡ costs.side) × (length cols.old ≡ costs.side) }
+    ensures { assignment 0 x.new y.new result.turns result.scans ≡ lapjv costs.entry.side costs.entry.cells.now }
 {
-    let b = reduction(n, cost, free_rows, x, y, v);
-    let scans = ca_dense(n, cost, b.ret, free_rows, x, y, v, pred, d, cols);
-    Tally {
+    let b = reduction(costs.side, costs.cells, free_rows, x, y, v);
+    let scans = ca_dense(costs, b.ret, free_rows, x, y, v, pred, d, cols);
+    Counts {
         turns: b.turns,
         scans,
     }
 }
 
-// The assignment, in work arrays of which the first n are lent. Where the sizes do not fit, nothing is stored.
-pub fn assign(n: usize, cost: &[f64], x: &mut [usize], y: &mut [usize]) -> Tally
+// The assignment. Where the sizes do not fit, nothing is stored.
+// Kept: with no heap the work arrays have the largest side, and the first n places are lent.
+pub fn assign(n: usize, cost: &[f64], x: &mut [usize], y: &mut [usize]) -> Counts
     ensures { assignment 0 x.new y.new result.turns result.scans ≡ assigning n cost.now x.old y.old }
 {
     if fits(n, cost.len(), x.len(), y.len()) {
+        let costs = Costs {
+            side: n,
+            cells: cost,
+        };
         let mut free_rows = [0usize; 255];
         let mut v = [0.0f64; 255];
         let mut pred = [0usize; 255];
         let mut d = [0.0f64; 255];
         let mut cols = [0usize; 255];
         return solve(
-            n,
-            cost,
+            costs,
             x,
             y,
             &mut free_rows[..n],
@@ -69,5 +67,5 @@ pub fn assign(n: usize, cost: &[f64], x: &mut [usize], y: &mut [usize]) -> Tally
             &mut cols[..n],
         );
     }
-    Tally { turns: 0, scans: 0 }
+    Counts { turns: 0, scans: 0 }
 }

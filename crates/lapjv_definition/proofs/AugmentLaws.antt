@@ -148,13 +148,6 @@ augment-ends n start pred cols target (suc m) b i j x y h o =
 -- ---- the same, a step at a time, for the loop of the code
 
 module _ {n start : ℕ} {pred x y : List ℕ} {m j : ℕ} (o : Holed n start pred m j x y) where
-  pub holed_row : get_or pred j 0 < n
-  holed_row = go o.hole.pred-j
-    where
-      go : From y o.cols start o.b (get_or pred j 0) → get_or pred j 0 < n
-      go (at-start e) = rw e o.hole.starts
-      go (via k hk e) = rw e (o.hole.held k hk)
-
   pub holed_step : (get_or pred j 0 ≡ start → ⊥) → Holed n start pred (m - 1) (row_of n (owner_of n (get_or x (get_or pred j 0) 0))) (set x (get_or pred j 0) j) (set y j (get_or pred j 0))
   holed_step ns = go o.hole.pred-j
     where
@@ -198,10 +191,6 @@ module _ {n start : ℕ} {pred : List ℕ} {R : Augmented} {k j : ℕ} {x y : Li
     where
       less : n - k - 1 ≡ n - (k + 1)
       less = omega arith
-
-  -- the fuel is never used up
-  pub aug_never : n ≤ k → ⊥
-  aug_never h = omega (arith, inv.holed.less)
 
 pub aug_start : {n start : ℕ} {pred : List ℕ} {j : ℕ} {x y : List ℕ} → length x ≡ n → length y ≡ n → Holed n start pred n j x y
     → AugInv n start pred (augment_from n pred start n n j x y) 0 j x y

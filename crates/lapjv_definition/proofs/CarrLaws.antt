@@ -5,20 +5,19 @@ use mathlib.Core.List.{List}
 use Prim.Native.Nat.{ℕ, zero, suc, ◌+◌, ◌-◌, ◌*◌, ◌<◌, ◌≤◌}
 use native.Mathlib.Omega.{arith}
 use native.Mathlib.Decide.{ℕ_discrete, dec_lt}
-use native.Mathlib.Nat.{mul-le-mul_right, add-mul, one-mul, sub-zero}
+use native.Mathlib.Nat.{mul-le-mul_right, add-mul}
 use borrow.Author.Tests.{lt-ltb, le-ltb, ltb-true}
 use lib.Dec.{ltb}
 use lib.ListN.{length, get_or, set, length-set}
 use lib.Seq.{get_or-set_same, get_or-set_other}
 use lib.Ieee.{Float, nan, lt, le}
 use Rattle.laws.specs.Fuel.{fuel_suc, fuel_zero}
-use Rattle.lapjv_definition.specs.Carr.{two, two_step, two_from, carr_two, Carrying, carrying, carr_row, carr_turn, carr_from, carr_dence}
+use Rattle.lapjv_definition.specs.Carr.{two, two_step, two_from, carr_two, Carrying, carr_row, carr_turn, carr_from}
 use Rattle.lapjv_definition.specs.Cost.{at, ◌⊖◌, large}
 use Rattle.lapjv_definition.specs.Entry.{owner_of, is_free}
 use Rattle.lapjv_definition.specs.Private.{carr_pick, carr_by, carr_take, carr_step}
 use Rattle.lapjv_definition.specs.declared.Pick.{Pick}
 use Rattle.lapjv_definition.specs.declared.Two.{Two}
-use Rattle.lapjv_definition.proofs.CostLaws.{square-small}
 use Rattle.lapjv_definition.proofs.EntryLaws.{free_yes, free_no, row_is}
 
 pub record TwoInv (n : ℕ) (cost : List Float) (i : ℕ) (v : List Float) (R : Two) (j : ℕ) (t : Two) : Type 0 where
@@ -308,14 +307,3 @@ pub carr-less : {n : ℕ} {cost : List Float} {n_free_rows : ℕ} {R s s' : Carr
     → n_free_rows * n - s'.rr_cnt < n_free_rows * n - s.rr_cnt
 carr-less {n} {cost} {n_free_rows} {R} {s} {s'} inv some more e =
     rw e (omega (arith, turns-one n cost s, mul-le-mul_right {m = s.current + 1} {n = n_free_rows} n (omega arith), inv.ok.room))
-
-pub carr-small : {n : ℕ} {cost : List Float} {n_free_rows : ℕ} {R s : Carrying} → CarrInv n cost n_free_rows R s → n ≤ 255 → n_free_rows ≤ n → s.rr_cnt < 65536
-carr-small {n} {cost} {n_free_rows} inv h nf = omega (arith, inv.ok.bound, mul-le-mul_right {m = n_free_rows} {n = n} n nf, square-small n h)
-
-pub carr-start : {n : ℕ} {cost : List Float} {n_free_rows : ℕ} {free_rows x y : List ℕ} {v : List Float} → 1 ≤ n → ((k : ℕ) → k < n_free_rows → get_or free_rows k 0 < n)
-    → length free_rows ≡ n → length x ≡ n → length y ≡ n → length v ≡ n
-    → CarrInv n cost n_free_rows (carr_dence n cost n_free_rows free_rows x y v) (carrying 0 0 0 free_rows x y v)
-carr-start {n} {cost} {n_free_rows} some b lf lx ly lv = record {
-  ok = record { cur = omega arith; new = omega arith; room = omega (arith, one-mul n); bound = omega arith; len_free = lf; len_x = lx; len_y = ly; len_v = lv; below = b };
-  rest = rw (sub-zero (n_free_rows * n));
-}

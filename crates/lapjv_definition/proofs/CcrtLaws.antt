@@ -5,12 +5,11 @@ use mathlib.Core.List.{List}
 use Prim.Native.Nat.{ℕ, suc, ◌+◌, ◌-◌, ◌<◌, ◌≤◌}
 use native.Mathlib.Omega.{arith}
 use native.Mathlib.Nat.{sub-zero}
-use lib.ListN.{length, get_or, set, replicate}
+use lib.ListN.{length, get_or, set}
 use lib.Seq.{get_or-set_other}
 use lib.Ieee.{Float, nan}
 use Rattle.laws.specs.Fuel.{fuel_suc, fuel_zero}
-use Rattle.laws.specs.Tab.{tab}
-use Rattle.lapjv_definition.specs.Ccrt.{Prices, prices, row_step, row_from, rows_from, Taken, taken, col_step, cols_from, min_step, min_from, Reduced, reduced, reduce_step, reduce_from, ccrt_at, ccrt_dense}
+use Rattle.lapjv_definition.specs.Ccrt.{Prices, prices, row_step, row_from, rows_from, Taken, taken, col_step, cols_from, min_step, min_from, Reduced, reduced, reduce_step, reduce_from}
 use Rattle.lapjv_definition.specs.Cost.{at, ◌⊖◌, large}
 use Rattle.lapjv_definition.specs.Entry.{owner_of, is_free, row_of}
 
@@ -39,10 +38,6 @@ row_again {n} {cost} {i} {R} {j} {y} {y'} {v} {v'} inv h e ly lv = record {
 pub row_done : {n : ℕ} {cost : List Float} {i : ℕ} {R : Prices} {j : ℕ} {y : List ℕ} {v : List Float} → RowInv n cost i R j y v → n ≤ j → prices y v ≡ R
 unfolding row_from
 row_done {n} {j = j} inv h = rw (fuel_zero n j h) at inv.rest
-
-pub row-start : {n : ℕ} {cost : List Float} {i : ℕ} {y : List ℕ} {v : List Float} → length y ≡ n → length v ≡ n
-    → RowInv n cost i (row_from n cost i n 0 (prices y v)) 0 y v
-row-start {n} ly lv = record { to = omega arith; len_y = ly; len_v = lv; rest = rw (sub-zero n) }
 
 -- ---- every row's
 
@@ -129,9 +124,6 @@ pub min_done : {n : ℕ} {cost : List Float} {i j : ℕ} {v : List Float} {R : F
 unfolding min_from
 min_done {n} {k = k} inv h = rw (fuel_zero n k h) at inv.rest
 
-pub min_start : {n : ℕ} {cost : List Float} {i j : ℕ} {v : List Float} (m : Float) → MinInv n cost i j v (min_from n cost i j v n 0 m) 0 m
-min_start {n} m = record { to = omega arith; rest = rw (sub-zero n) }
-
 -- ---- the free rows
 
 pub record RedInv (n : ℕ) (cost : List Float) (x : List ℕ) (u : List Bool) (R : Reduced) (i k : ℕ) (free_rows : List ℕ) (v : List Float) : Type 0 where
@@ -167,19 +159,3 @@ red_again {n} {cost} {x} {u} {R} {i} {k} {k'} {free_rows} {free_rows'} {v} {v'} 
 pub red_done : {n : ℕ} {cost : List Float} {x : List ℕ} {u : List Bool} {R : Reduced} {i k : ℕ} {free_rows : List ℕ} {v : List Float} → RedInv n cost x u R i k free_rows v → n ≤ i → reduced free_rows k v ≡ R
 unfolding reduce_from
 red_done {n} {i = i} inv h = rw (fuel_zero n i h) at inv.rest
-
-pub red_start : {n : ℕ} {cost : List Float} {x : List ℕ} {u : List Bool} {free_rows : List ℕ} {v : List Float} → length free_rows ≡ n → length v ≡ n
-    → RedInv n cost x u (reduce_from n cost x u n 0 (reduced free_rows 0 v)) 0 0 free_rows v
-red_start {n} lf lv = record { to = omega arith; low = omega arith; len_free = lf; len_v = lv; rest = rw (sub-zero n) }
-
--- ---- all of ccrt_dense
-
-pub ccrt_law : (n : ℕ) (cost : List Float) (free_rows x1 y1 : List ℕ) (v1 : List Float) (y2 : List ℕ) (v2 : List Float) (u : List Bool) (x3 y3 : List ℕ) (u3 : List Bool) (f4 : List ℕ) (k : ℕ) (v4 : List Float)
-    → x1 ≡ tab (λ i. n) n → y1 ≡ tab (λ i. 0) n → v1 ≡ tab (λ i. large) n → u ≡ replicate n true
-    → prices y2 v2 ≡ rows_from n cost n 0 (prices y1 v1)
-    → taken x3 y3 u3 ≡ cols_from n n (taken x1 y2 u)
-    → reduced f4 k v4 ≡ reduce_from n cost x3 u3 n 0 (reduced free_rows 0 v2)
-    → ccrt_at x3 y3 v4 f4 k ≡ ccrt_dense n cost free_rows
-ccrt_law n cost free_rows x1 y1 v1 y2 v2 u x3 y3 u3 f4 k v4 ex ey ev eu e2 e3 e4 =
-    ap (λ (s : Reduced). ccrt_at x3 y3 s.v s.free_rows s.n_free_rows) e4
-    ∙ rw (ap (λ (s : Taken). s.x) e3, ap (λ (s : Taken). s.y) e3, ap (λ (s : Taken). s.unique) e3, ap (λ (s : Prices). s.y) e2, ap (λ (s : Prices). s.v) e2, ex, ey, ev, eu)

@@ -2,9 +2,9 @@
 use mathlib.Core.Path.{◌≡◌, ap, ◌∙◌}
 use mathlib.Core.Bool.{true, false}
 use mathlib.Core.List.{List}
-use Prim.Native.Nat.{ℕ, ◌*◌, ◌<◌, ◌≤◌}
+use Prim.Native.Nat.{ℕ, ◌*◌, ◌≤◌}
 use native.Mathlib.Omega.{arith}
-use borrow.Author.Tests.{eq-eqb, ne_eqb, lt-ltb, le-ltb, eqb-true, eqb-false, ltb-false}
+use borrow.Author.Tests.{eq-eqb, ne_eqb, le-ltb, eqb-true, eqb-false, ltb-false}
 use lib.Dec.{eqb, ltb}
 use lib.ListN.{length, replicate, length-replicate}
 use lib.Ieee.{Float}
@@ -13,34 +13,9 @@ use Rattle.lapjv_definition.specs.Halves.{sized, rounds_over, reduction, assigni
 use Rattle.lapjv_definition.specs.Invariant.{Square}
 use Rattle.lapjv_definition.specs.Lapjv.{Rounds, rounds_at, rounds, assignment, lapjv}
 
-module _ (n costs a b : ℕ) where
-  pub fits-none : n ≡ 0 → false ≡ sized n costs a b
-  unfolding sized
-  fits-none e = rw (eq-eqb n 0 e)
-
-  module _ (some : n ≡ 0 → ⊥) where
-    pub fits_big : 255 < n → false ≡ sized n costs a b
-    unfolding sized
-    fits_big h = rw (ne_eqb n 0 some, lt-ltb 255 n h)
-
-    module _ (small : n ≤ 255) where
-      pub fits-costs : (costs ≡ n * n → ⊥) → false ≡ sized n costs a b
-      unfolding sized
-      fits-costs h = rw (ne_eqb n 0 some, le-ltb 255 n small, ne_eqb costs (n * n) h)
-
-      module _ (ec : costs ≡ n * n) where
-        pub fits-first : (a ≡ n → ⊥) → false ≡ sized n costs a b
-        unfolding sized
-        fits-first h = rw (ne_eqb n 0 some, le-ltb 255 n small, eq-eqb costs (n * n) ec, ne_eqb a n h)
-
-        module _ (ea : a ≡ n) where
-          pub fits_second : (b ≡ n → ⊥) → false ≡ sized n costs a b
-          unfolding sized
-          fits_second h = rw (ne_eqb n 0 some, le-ltb 255 n small, eq-eqb costs (n * n) ec, eq-eqb a n ea, ne_eqb b n h)
-
-          pub fits_all : b ≡ n → true ≡ sized n costs a b
-          unfolding sized
-          fits_all h = rw (ne_eqb n 0 some, le-ltb 255 n small, eq-eqb costs (n * n) ec, eq-eqb a n ea, eq-eqb b n h)
+fits_all : (n costs a b : ℕ) → (n ≡ 0 → ⊥) → n ≤ 255 → costs ≡ n * n → a ≡ n → b ≡ n → true ≡ sized n costs a b
+unfolding sized
+fits_all n costs a b some small ec ea eb = rw (ne_eqb n 0 some, le-ltb 255 n small, eq-eqb costs (n * n) ec, eq-eqb a n ea, eq-eqb b n eb)
 
 -- what a test that passes shows
 pub record Fitting (n : ℕ) (cost : List Float) (a b : ℕ) : Type 0 where

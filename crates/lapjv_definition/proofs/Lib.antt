@@ -10,6 +10,7 @@ pub mod CcrtLaws
 pub mod CostLaws
 pub mod EntryLaws
 pub mod FindLaws
+pub mod FoundLaws
 pub mod HalvesLaws
 pub mod LoopEnds
 pub mod Own

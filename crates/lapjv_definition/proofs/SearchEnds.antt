@@ -9,6 +9,7 @@ use borrow.Author.Tests.{lt-ltb, le-ltb, ltb-true, ltb-false, eq-eqb, eqb-true, 
 use lib.Dec.{ltb, eqb}
 use lib.ListN.{length, get_or}
 use lib.Ieee.{Float, nan, le, lt}
+use Rattle.std.specs.Prelude.{Option, is_some}
 use Rattle.laws.specs.Swap.{swapped}
 use Rattle.laws.specs.Total.{total}
 use Rattle.lapjv_definition.specs.Entry.{owner_of, is_free}
@@ -16,7 +17,7 @@ use Rattle.lapjv_definition.specs.Find.{Finding, finding, find_step, find_from, 
 use Rattle.lapjv_definition.specs.Invariant.{SearchOk, FoundOk, taken}
 use Rattle.lapjv_definition.specs.Path.{last_free, Search, search_at, search_step, search_from}
 use Rattle.lapjv_definition.specs.Scan.{Scanning, scanning, Scans, scans_at, scan_all}
-use Rattle.lapjv_definition.proofs.EntryLaws.{free_true, free_false, row_is}
+use Rattle.lapjv_definition.proofs.EntryLaws.{free_true, free_false, row_is, owner_free, found_none}
 use Rattle.lapjv_definition.proofs.SearchLaws.{swap_ok, swap_low, ScanOk, row_ok, scan_lit, scanned_few}
 
 -- ---- find_dense
@@ -331,8 +332,9 @@ pub record SearchInv (n : ℕ) (cost : List Float) (y : List ℕ) (v : List Floa
   pub enough : n ≤ s.st.final_j → n ≤ s.lo + fuel
   pub rest : search_from n cost y v fuel s ≡ R
 
-pub search_left : ℕ → Search → ℕ
-search_left n s = cond (ltb s.st.final_j n) 0 (suc (n - s.lo))
+-- what is left of a search that has found a column, or has not yet
+pub search_left : ℕ → Option ℕ → ℕ → ℕ
+search_left n found lo = cond (is_some found) 0 (suc (n - lo))
 
 search-next : (n : ℕ) (cost : List Float) (y : List ℕ) (v : List Float) (m : ℕ) (s : Search) → n ≤ s.st.final_j → search_from n cost y v (suc m) s ≡ search_from n cost y v m (search_step n cost y v s)
 unfolding search_from
@@ -361,13 +363,13 @@ module _ {n : ℕ} {cost : List Float} {y : List ℕ} {v : List Float} {R s : Se
         one : suc (inv.fuel - 1) ≡ inv.fuel
         one = omega (arith, inv.enough h, inv_lo)
 
-    pub search-less : search_left n t < search_left n s
+    pub search-less : {o o' : Option ℕ} → o ≡ owner_of n s.st.final_j → o' ≡ owner_of n t.st.final_j → search_left n o' t.lo < search_left n o s.lo
     unfolding search_left
-    search-less = rw (le-ltb s.st.final_j n h) (go (ltb t.st.final_j n) refl)
+    search-less {o} {o'} eo eo' = rw (eo ∙ owner_free n s.st.final_j h) (go (is_some o') refl)
       where
-        go : (b : Bool) → ltb t.st.final_j n ≡ b → cond b 0 (suc (n - t.lo)) < suc (n - s.lo)
+        go : (b : Bool) → is_some o' ≡ b → cond b 0 (suc (n - t.lo)) < suc (n - s.lo)
         go true q = omega arith
-        go false q = omega (arith, passed.more (ltb-false t.st.final_j n q), inv_lo)
+        go false q = omega (arith, passed.more (found_none eo' q), inv_lo)
 
 pub search-done : {n : ℕ} {cost : List Float} {y : List ℕ} {v : List Float} {R s : Search} → SearchInv n cost y v R s → s.st.final_j < n → s ≡ R
 unfolding search_from

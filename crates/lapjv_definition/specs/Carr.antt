@@ -1,11 +1,10 @@
 -- `carr_dence`, lines 84 to 153 of lapjv.rs. n stands for -1. A row turn is a pass of its outer loop, and rr_cnt counts them.
-use Rattle.std.specs.Prelude.{Bool, true, false, cond, ◌&&◌, not, List, ℕ, zero, suc, ◌+◌, ◌-◌, ◌*◌, ltb, get_or, set, Float}
+use Rattle.std.specs.Prelude.{Bool, true, false, cond, ◌&&◌, not, List, ℕ, zero, suc, ◌+◌, ◌-◌, ◌*◌, ltb, get_or, set, Float, Option}
 use Rattle.std.specs.Float.{nan}
 use Rattle.std.specs.Float.Ieee.{lt, le}
 use Rattle.lapjv_definition.specs.Cost.{at, ◌⊖◌, large}
 use Rattle.lapjv_definition.specs.Entry.{owner_of, is_free, row_of}
 use Rattle.lapjv_definition.specs.declared.Two.{Two}
-use Rattle.lapjv_definition.specs.declared.Owner.{Owner}
 
 -- ---- lines 102 to 120: the least reduced cost of a row and the next one, with their columns
 
@@ -44,7 +43,7 @@ carrying current new_free_rows rr_cnt free_rows x y v =
 
 -- lines 134 to 150: free_i takes column j1, and i0, that column's row so far, is free again if there is one: where retry, it has the next turn of this
 -- call (current goes back by one), else it waits for the next call of carr_dence or, after the second, for ca_dense
-abbrev pub carr_row : ℕ → Bool → ℕ → ℕ → Owner → List Float → Carrying → Carrying
+abbrev pub carr_row : ℕ → Bool → ℕ → ℕ → Option ℕ → List Float → Carrying → Carrying
 carr_row n retry free_i j1 i0 v s =
     let x = set s.x free_i j1 in
     let y = set s.y j1 free_i in

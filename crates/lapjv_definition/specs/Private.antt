@@ -1,10 +1,13 @@
 -- What the contracts of private functions cite where the port goes another way than the Rust's text: a row turn in four steps. `turn_is` of
 -- proofs/CarrLaws.antt shows that it comes to the same.
-use Rattle.std.specs.Prelude.{Bool, true, false, cond, List, ℕ, ◌+◌, ◌*◌, ltb, get_or, set, Float}
+use Rattle.std.specs.Prelude.{Bool, true, false, cond, List, ℕ, ◌+◌, ◌*◌, ltb, get_or, set, Float, Option, ◌≡◌}
 use Rattle.std.specs.Float.{nan}
 use Rattle.std.specs.Float.Ieee.{lt}
 use Rattle.lapjv_definition.specs.Carr.{Carrying, carrying, carr_two}
 use Rattle.lapjv_definition.specs.Cost.{◌⊖◌}
+use Rattle.lapjv_definition.specs.Entry.{owner_of}
+use Rattle.lapjv_definition.specs.Path.{Search}
+use Rattle.lapjv_definition.specs.Scan.{Scanning, scanning, Scans}
 use Rattle.lapjv_definition.specs.declared.Pick.{Pick}
 
 abbrev pub pick : ℕ → Bool → Pick
@@ -44,3 +47,17 @@ carr_step n cost s =
     let v1_new = vj1 ⊖ (t.v2 ⊖ t.v1) in
     let p = carr_pick (ltb (s.rr_cnt + 1) ((s.current + 1) * n)) (lt v1_new vj1) (ltb (get_or s.y t.j1 0) n) (ltb t.j2 n) t.j1 t.j2 in
     carr_take n p.retry free_i p.j (cond p.retry (set s.v p.j v1_new) s.v) s
+
+-- ---- what the steps of a search leave, as the code has it: the free column that was found is an option, and not n where there is none
+
+pub record Scanned (n : ℕ) (t : Scanning) (d : List Float) (cols pred : List ℕ) (hi : ℕ) (found : Option ℕ) : Type 0 where
+  pub left : scanning d cols pred hi t.final_j ≡ t
+  pub column : found ≡ owner_of n t.final_j
+
+pub record AllScanned (n : ℕ) (a : Scans) (ends : ℕ → Scans) (found : Option ℕ) : Type 0 where
+  pub left : ends a.st.final_j ≡ a
+  pub column : found ≡ owner_of n a.st.final_j
+
+pub record Searched (n : ℕ) (s : Search) (ends : ℕ → Search) (found : Option ℕ) : Type 0 where
+  pub left : ends s.st.final_j ≡ s
+  pub column : found ≡ owner_of n s.st.final_j

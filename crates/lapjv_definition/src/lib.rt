@@ -1,11 +1,11 @@
 // The types that the definition of the assignment and its code share. The definition is in specs/, its theorems in proofs/: there is no code here.
 #![tactic(auto)]
 
-// An entry of x or y: taken by a row (in x, by a column), or free.
-#[derive(Drop)]
-pub enum Owner {
-    Row(usize),
-    Free,
+// The row turns and column scans of a call.
+#[derive(Clone, Copy, Debug, PartialEq, Eq)]
+pub struct Counts {
+    pub turns: usize,
+    pub scans: usize,
 }
 
 // The columns and the values of a row's least reduced cost and of the next one.
@@ -18,6 +18,7 @@ pub struct Two {
 }
 
 // The column that a row takes, and whether the row that had it has the next turn.
+// Kept: a row takes a column either way, so two variants with the same value in them would be no plainer than the flag.
 #[derive(Drop)]
 pub struct Pick {
     pub j: usize,

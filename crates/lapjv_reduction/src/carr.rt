@@ -2,11 +2,10 @@
 ghost use Rattle.std.specs.Prelude.{◌≡◌, cond, List, ℕ, ◌<◌, ◌≤◌, ltb, length, get_or, set, Float};
 ghost use Rattle.std.specs.Float.Ieee.{lt};
 ghost use Rattle.lapjv_definition.specs.Carr.{two_step, carr_two, carrying, carr_turn, carr_dence};
-ghost use Rattle.lapjv_definition.specs.Invariant.{Square};
 ghost use Rattle.lapjv_definition.specs.Private.{carr_take, carr_pick};
 
-use crate::cost::{LARGE, at};
-use crate::entry::{is_free, row_of};
+use crate::cost::{Costs, LARGE};
+use crate::entry::{is_free, owner_of};
 use lapjv_definition::{Pick, Two};
 
 // Lines 109 to 119: column j, whose reduced cost is c.
@@ -15,12 +14,7 @@ fn two_step(c: f64, j: usize, t: Two) -> Two
 {
     if c < t.v2 {
         if c >= t.v1 {
-            return Two {
-                j1: t.j1,
-                j2: j,
-                v1: t.v1,
-                v2: c,
-            };
+            return Two { j2: j, v2: c, ..t };
         }
         return Two {
             j1: j,
@@ -33,19 +27,18 @@ fn two_step(c: f64, j: usize, t: Two) -> Two
 }
 
 // Lines 102 to 120: the least reduced cost of row i and the next one.
-fn carr_two(n: usize, cost: &[f64], i: usize, v: &[f64]) -> Two
-    requires { Square n cost.now × (i < n) × (length v.now ≡ n) }
-    ensures { result ≡ carr_two n cost.now i v.now }
+fn carr_two(costs: Costs, i: usize, v: &[f64]) -> Two
+    requires { (i < costs.side) × (length v.now ≡ costs.side) }
+    ensures { result ≡ carr_two costs.entry.side costs.entry.cells.now i v.now }
 {
     let mut t = Two {
         j1: 0,
-        j2: n,
-        v1: at(cost, n, i, 0) - v[0],
+        j2: costs.side,
+        v1: costs.at(i, 0) - v[0],
         v2: LARGE,
     };
-    for j in 1..n {
-        let c = at(cost, n, i, j) - v[j];
-        t = two_step(c, j, t);
+    for j in 1..costs.side {
+        t = two_step(costs.at(i, j) - v[j], j, t);
     }
     t
 }
@@ -74,32 +67,25 @@ fn carr_take(
     ensures { (v : List Float) → carrying result.current result.new_free_rows result.rr_cnt free_rows.new x.new y.new v
         ≡ carr_take n retry i j v (carrying s.current s.new_free_rows s.rr_cnt free_rows.old x.old y.old v) }
 {
-    let current = s.current;
-    let new_free_rows = s.new_free_rows;
     let rr_cnt = s.rr_cnt + 1;
-    let yj = y[j];
+    let owner = owner_of(n, y[j]);
     x[i] = j;
     y[j] = i;
-    if is_free(n, yj) {
+    let Some(r) = owner else {
         return Turned {
-            current: current + 1,
-            new_free_rows,
+            current: s.current + 1,
             rr_cnt,
+            ..s
         };
-    }
-    let r = row_of(n, yj);
+    };
     if retry {
-        free_rows[current] = r;
-        return Turned {
-            current,
-            new_free_rows,
-            rr_cnt,
-        };
+        free_rows[s.current] = r;
+        return Turned { rr_cnt, ..s };
     }
-    free_rows[new_free_rows] = r;
+    free_rows[s.new_free_rows] = r;
     Turned {
-        current: current + 1,
-        new_free_rows: new_free_rows + 1,
+        current: s.current + 1,
+        new_free_rows: s.new_free_rows + 1,
         rr_cnt,
     }
 }
@@ -113,22 +99,12 @@ fn carr_pick(n: usize, early: bool, v1_new: f64, vj1: f64, i0: usize, j1: usize,
         if v1_new < vj1 {
             return Pick { j: j1, retry: true };
         }
-        if is_free(n, i0) {
-            return Pick {
-                j: j1,
-                retry: false,
-            };
-        }
-        if j2 < n {
+        if !is_free(n, i0) && j2 < n {
             return Pick {
                 j: j2,
                 retry: false,
             };
         }
-        return Pick {
-            j: j1,
-            retry: false,
-        };
     }
     Pick {
         j: j1,
@@ -136,66 +112,53 @@ fn carr_pick(n: usize, early: bool, v1_new: f64, vj1: f64, i0: usize, j1: usize,
     }
 }
 
-// Line 128, where lower says that its tests, lines 126 and 127, both hold.
-fn carr_lower(lower: bool, j: usize, v1_new: f64, v: &mut [f64])
-    requires { j < length v.old }
-    ensures { v.new ≡ cond lower (set v.old j v1_new) v.old }
-{
-    if lower {
-        v[j] = v1_new;
-        return;
-    }
-}
-
 // Lines 98 to 150: one row turn.
 fn carr_turn(
-    n: usize,
-    cost: &[f64],
+    costs: Costs,
     s: Turned,
     free_rows: &mut [usize],
     x: &mut [usize],
     y: &mut [usize],
     v: &mut [f64],
 ) -> Turned
-    requires { Square n cost.now × (s.current < n) × (s.new_free_rows ≤ s.current) × (s.rr_cnt < 65536) × (get_or free_rows.old s.current 0 < n)
-        × (length free_rows.old ≡ n) × (length x.old ≡ n) × (length y.old ≡ n) × (length v.old ≡ n) }
+    requires { (s.current < costs.side) × (s.new_free_rows ≤ s.current) × (s.rr_cnt < 65536) × (get_or free_rows.old s.current 0 < costs.side)
+        × (length free_rows.old ≡ costs.side) × (length x.old ≡ costs.side) × (length y.old ≡ costs.side) × (length v.old ≡ costs.side) }
     ensures { carrying result.current result.new_free_rows result.rr_cnt free_rows.new x.new y.new v.new
-        ≡ carr_turn n cost.now (carrying s.current s.new_free_rows s.rr_cnt free_rows.old x.old y.old v.old) }
+        ≡ carr_turn costs.entry.side costs.entry.cells.now (carrying s.current s.new_free_rows s.rr_cnt free_rows.old x.old y.old v.old) }
 {
-    let current = s.current;
-    let free_i = free_rows[current];
-    let t = carr_two(n, cost, free_i, v);
-    let j1 = t.j1;
-    let i0 = y[j1];
-    let vj1 = v[j1];
+    let free_i = free_rows[s.current];
+    let t = carr_two(costs, free_i, v);
+    let vj1 = v[t.j1];
     let v1_new = vj1 - (t.v2 - t.v1);
-    let early = s.rr_cnt + 1 < (current + 1) * n;
-    let p = carr_pick(n, early, v1_new, vj1, i0, j1, t.j2);
-    carr_lower(p.retry, p.j, v1_new, v);
-    carr_take(n, p.retry, free_i, p.j, s, free_rows, x, y)
+    let early = s.rr_cnt + 1 < (s.current + 1) * costs.side;
+    let p = carr_pick(costs.side, early, v1_new, vj1, y[t.j1], t.j1, t.j2);
+    if p.retry {
+        v[p.j] = v1_new;
+    }
+    carr_take(costs.side, p.retry, free_i, p.j, s, free_rows, x, y)
 }
 
 pub(crate) fn carr_dence(
-    n: usize,
-    cost: &[f64],
+    costs: Costs,
     n_free_rows: usize,
     free_rows: &mut [usize],
     x: &mut [usize],
     y: &mut [usize],
     v: &mut [f64],
 ) -> Turned
-    requires { Square n cost.now × (n_free_rows ≤ n) × ((k : ℕ) → k < n_free_rows → get_or free_rows.old k 0 < n)
-        × (length free_rows.old ≡ n) × (length x.old ≡ n) × (length y.old ≡ n) × (length v.old ≡ n) }
+    requires { (n_free_rows ≤ costs.side) × ((k : ℕ) → k < n_free_rows → get_or free_rows.old k 0 < costs.side)
+        × (length free_rows.old ≡ costs.side) × (length x.old ≡ costs.side) × (length y.old ≡ costs.side) × (length v.old ≡ costs.side) }
     ensures { carrying result.current result.new_free_rows result.rr_cnt free_rows.new x.new y.new v.new
-        ≡ carr_dence n cost.now n_free_rows free_rows.old x.old y.old v.old }
+        ≡ carr_dence costs.entry.side costs.entry.cells.now n_free_rows free_rows.old x.old y.old v.old }
 {
     let mut s = Turned {
         current: 0,
         new_free_rows: 0,
         rr_cnt: 0,
     };
+    // Kept: no index counts here, since a turn may leave current where it is.
     while s.current < n_free_rows {
-        s = carr_turn(n, cost, s, free_rows, x, y, v);
+        s = carr_turn(costs, s, free_rows, x, y, v);
     }
     s
 }

@@ -9,11 +9,12 @@ ghost use Rattle.lapjv_definition.specs.Lapjv.{rounds_at};
 
 mod carr;
 mod ccrt;
-mod cost;
+pub mod cost;
 pub mod entry;
 
 use carr::carr_dence;
 use ccrt::ccrt_dense;
+use cost::Costs;
 
 // The rows that are still free, and the row turns.
 #[derive(Drop)]
@@ -23,43 +24,29 @@ pub struct Rounds {
 }
 
 // Whether the side is 1 to 255, the costs are n x n, and two slices n long.
+// Kept: `lapjv` makes these tests too, and says which one fails. `reduction` and `assign` ask nothing of their callers, so they test for themselves.
+#[tactic(auto, unfolding(lapjv_definition::specs::Halves::sized))]
 pub fn fits(n: usize, costs: usize, a: usize, b: usize) -> bool
     ensures { result ≡ sized n costs a b }
 {
-    if n == 0 {
-        return false;
-    }
-    if 255 < n {
-        return false;
-    }
-    if costs != n * n {
-        return false;
-    }
-    if a != n {
-        return false;
-    }
-    if b != n {
-        return false;
-    }
-    true
+    0 < n && n <= 255 && costs == n * n && a == n && b == n
 }
 
 // Lines 340 to 347, in a work slice of n. With no free row a round does nothing and counts nothing, so the test `ret > 0` is left out.
 fn reduce(
-    n: usize,
-    cost: &[f64],
+    costs: Costs,
     free_rows: &mut [usize],
     x: &mut [usize],
     y: &mut [usize],
     v: &mut [f64],
     unique: &mut [bool],
 ) -> Rounds
-    requires { Square n cost.now × (length free_rows.old ≡ n) × (length x.old ≡ n) × (length y.old ≡ n) × (length v.old ≡ n) × (unique.old ≡ replicate n true) }
-    ensures { rounds_at result.ret result.turns free_rows.new x.new y.new v.new ≡ rounds_over n cost.now free_rows.old }
+    requires { (length free_rows.old ≡ costs.side) × (length x.old ≡ costs.side) × (length y.old ≡ costs.side) × (length v.old ≡ costs.side) × (unique.old ≡ replicate costs.side true) }
+    ensures { rounds_at result.ret result.turns free_rows.new x.new y.new v.new ≡ rounds_over costs.entry.side costs.entry.cells.now free_rows.old }
 {
-    let ret = ccrt_dense(n, cost, free_rows, x, y, v, unique);
-    let a = carr_dence(n, cost, ret, free_rows, x, y, v);
-    let b = carr_dence(n, cost, a.new_free_rows, free_rows, x, y, v);
+    let ret = ccrt_dense(costs, free_rows, x, y, v, unique);
+    let a = carr_dence(costs, ret, free_rows, x, y, v);
+    let b = carr_dence(costs, a.new_free_rows, free_rows, x, y, v);
     Rounds {
         ret: b.new_free_rows,
         turns: a.rr_cnt + b.rr_cnt,
@@ -80,8 +67,12 @@ pub fn reduction(
 {
     if fits(n, cost.len(), x.len(), y.len()) {
         if fits(n, cost.len(), free_rows.len(), v.len()) {
+            let costs = Costs {
+                side: n,
+                cells: cost,
+            };
             let mut unique = [true; 255];
-            return reduce(n, cost, free_rows, x, y, v, &mut unique[..n]);
+            return reduce(costs, free_rows, x, y, v, &mut unique[..n]);
         }
         return Rounds { ret: 0, turns: 0 };
     }

@@ -8,6 +8,7 @@ ghost use Rattle.std.specs.Prelude.{◌<◌, ◌≤◌};
 mod matrices;
 mod text;
 
+use matrices::{KINDS, Kind};
 use vectors_digest::digest;
 
 // What lapjv answers, and the slices as it leaves them.
@@ -19,7 +20,7 @@ fn call(n: usize, cost: &[f64], x: &mut [usize], y: &mut [usize]) {
 }
 
 // The matrix of a kind and a side.
-fn replay(kind: usize, n: usize, cost: &mut [f64], x: &mut [usize], y: &mut [usize])
+fn replay(kind: Kind, n: usize, cost: &mut [f64], x: &mut [usize], y: &mut [usize])
     requires { 0 < n }
 {
     matrices::fill(kind, n, cost);
@@ -30,7 +31,7 @@ fn replay(kind: usize, n: usize, cost: &mut [f64], x: &mut [usize], y: &mut [usi
 fn every_kind(n: usize, cost: &mut [f64], x: &mut [usize], y: &mut [usize])
     requires { 0 < n }
 {
-    for kind in 0..matrices::KINDS {
+    for kind in KINDS {
         replay(kind, n, cost, x, y);
     }
 }

@@ -4,10 +4,49 @@ ghost use Rattle.std.specs.Prelude.{◌<◌};
 
 use vectors_digest::random::next;
 
-pub(crate) const KINDS: usize = 17;
+#[derive(Clone, Copy)]
+pub(crate) enum Kind {
+    Uniform,
+    Tied,
+    Integers,
+    Product,
+    Nans,
+    NanLines,
+    Infinities,
+    Zeros,
+    MoreBoxes,
+    MoreTracks,
+    Worst,
+    Scans,
+    Equal,
+    NearLarge,
+    Wide,
+    Any,
+    AllNan,
+}
+
+pub(crate) const KINDS: [Kind; 17] = [
+    Kind::Uniform,
+    Kind::Tied,
+    Kind::Integers,
+    Kind::Product,
+    Kind::Nans,
+    Kind::NanLines,
+    Kind::Infinities,
+    Kind::Zeros,
+    Kind::MoreBoxes,
+    Kind::MoreTracks,
+    Kind::Worst,
+    Kind::Scans,
+    Kind::Equal,
+    Kind::NearLarge,
+    Kind::Wide,
+    Kind::Any,
+    Kind::AllNan,
+];
 
 // Where the random numbers of a matrix start: not at 0, which the generator never leaves.
-fn seed(kind: usize, n: usize) -> u64 {
+fn seed(kind: Kind, n: usize) -> u64 {
     next(88172645463325252 ^ ((n as u64) << 8) ^ (kind as u64))
 }
 
@@ -37,21 +76,16 @@ fn infinity() -> f64 {
 
 // `rare` in one of eight cells.
 fn sprinkled(r: u64, rare: f64, other: f64) -> f64 {
-    if (r >> 11) % 8 == 0 {
-        return rare;
-    }
-    other
+    if (r >> 11) % 8 == 0 { rare } else { other }
 }
 
 // `line` in a whole row and a whole column.
 fn on_lines(n: usize, i: usize, j: usize, line: f64, other: f64) -> f64 {
-    if i == n / 2 {
-        return line;
+    if i == n / 2 || j == n / 3 {
+        line
+    } else {
+        other
     }
-    if j == n / 3 {
-        return line;
-    }
-    other
 }
 
 fn zero(r: u64) -> f64 {
@@ -84,13 +118,11 @@ fn any(r: u64) -> f64 {
 // A square as match_detections makes it of `rows` boxes and `columns` tracks: a similarity is
 // negated, less a trifle for each row above it, and the rest is filled.
 fn padded(rows: usize, columns: usize, i: usize, j: usize, similarity: f64) -> f64 {
-    if i < rows {
-        if j < columns {
-            return -similarity - 1e-12 * real(i);
-        }
-        return 1000000.0;
+    if i < rows && j < columns {
+        -similarity - 1e-12 * real(i)
+    } else {
+        1000000.0
     }
-    1000000.0
 }
 
 // A cost that no row bids for, higher in a later column, and in a later row more so.
@@ -103,55 +135,52 @@ fn worst(n: usize, i: usize, j: usize) -> f64
     requires { 0 < n }
 {
     if j == n - 1 {
-        return real(i) / 1024.0;
+        real(i) / 1024.0
+    } else if j == 0 {
+        0.0
+    } else {
+        dear(i, j)
     }
-    if j == 0 {
-        return 0.0;
-    }
-    dear(i, j)
 }
 
 // As many scans, and hardly a turn.
 fn scans(n: usize, i: usize, j: usize) -> f64
     requires { 0 < n }
 {
-    if j == n - 1 {
-        return 2000000.0;
-    }
-    dear(i, j)
+    if j == n - 1 { 2000000.0 } else { dear(i, j) }
 }
 
-fn cell(kind: usize, n: usize, i: usize, j: usize, r: u64) -> f64
+fn cell(kind: Kind, n: usize, i: usize, j: usize, r: u64) -> f64
     requires { 0 < n }
 {
     match kind {
-        0 => unit(r),
-        1 => whole(r, 4) / 4.0,
-        2 => whole(r, 21) - 10.0,
-        3 => (real(i) + 1.0) * (real(j) + 1.0),
-        4 => sprinkled(r, nan(), unit(next(r))),
-        5 => on_lines(n, i, j, nan(), unit(r)),
-        6 => sprinkled(r, infinity(), sprinkled(next(r), -infinity(), unit(r))),
-        7 => zero(r),
-        8 => padded(n, n - n / 3, i, j, whole(r, 9) / 8.0),
-        9 => padded(n - n / 3, n, i, j, whole(r, 1025) / 1024.0),
-        10 => worst(n, i, j),
-        11 => scans(n, i, j),
-        12 => 0.5,
-        13 => 1000000.0 + whole(r, 5) - 2.0,
-        14 => 1.0 / unit(r) - 1.0 / unit(next(r)),
-        15 => any(r),
-        _ => nan(),
+        Kind::Uniform => unit(r),
+        Kind::Tied => whole(r, 4) / 4.0,
+        Kind::Integers => whole(r, 21) - 10.0,
+        Kind::Product => (real(i) + 1.0) * (real(j) + 1.0),
+        Kind::Nans => sprinkled(r, nan(), unit(next(r))),
+        Kind::NanLines => on_lines(n, i, j, nan(), unit(r)),
+        Kind::Infinities => sprinkled(r, infinity(), sprinkled(next(r), -infinity(), unit(r))),
+        Kind::Zeros => zero(r),
+        Kind::MoreBoxes => padded(n, n - n / 3, i, j, whole(r, 9) / 8.0),
+        Kind::MoreTracks => padded(n - n / 3, n, i, j, whole(r, 1025) / 1024.0),
+        Kind::Worst => worst(n, i, j),
+        Kind::Scans => scans(n, i, j),
+        Kind::Equal => 0.5,
+        Kind::NearLarge => 1000000.0 + whole(r, 5) - 2.0,
+        Kind::Wide => 1.0 / unit(r) - 1.0 / unit(next(r)),
+        Kind::Any => any(r),
+        Kind::AllNan => nan(),
     }
 }
 
 // Fills a square of side n, row by row, with the matrix of a kind.
-pub(crate) fn fill(kind: usize, n: usize, cost: &mut [f64])
+pub(crate) fn fill(kind: Kind, n: usize, cost: &mut [f64])
     requires { 0 < n }
 {
     let mut r = seed(kind, n);
-    for k in 0..cost.len() {
+    for (k, c) in cost.iter_mut().enumerate() {
         r = next(r);
-        cost[k] = cell(kind, n, k / n, k % n, r);
+        *c = cell(kind, n, k / n, k % n, r);
     }
 }

@@ -16,8 +16,9 @@ use Rattle.mot_fields.specs.Fields.{is_minus_one}
 use Rattle.mot_fault.specs.declared.kinds.Fault.{Fault}
 use Rattle.mot_fault.specs.declared.kinds.Fault.TheVariants.{Empty, OtherByte, MinusAlone, NoDigits, ManyDigits, NoDecimals, ManyDecimals, NotMinusOne, FilledId}
 use Rattle.mot_fault.specs.declared.kinds.Found.{Found}
-use Rattle.mot_fault.specs.declared.kinds.Found.TheVariants.{Fine, At}
-use Rattle.mot_fault.specs.Form.{other_at, first_other, digits_fault, or_else, unsigned_fault, number_fault, minus_one_fault, id_fault}
+use Rattle.std.specs.Bool.{⊤}
+use Rattle.std.proofs.Common.{Result, Ok, Err}
+use Rattle.mot_fault.specs.Form.{at, other_at, first_other, digits_fault, or_else, unsigned_fault, number_fault, minus_one_fault, id_fault}
 use Rattle.mot_fault.specs.Laws.{of_value, refusal_of, refusal_found}
 
 -- ---- the first byte that is no digit is below the length exactly where not every byte is one
@@ -58,7 +59,7 @@ unfolding digits_fault one_to_six
 digits_are none many skip t a b = go (length t) refl (every is_digit t) refl (ltb 6 (length t)) refl
   where
     go : (n : ℕ) → length t ≡ n → (e : Bool) → every is_digit t ≡ e → (m : Bool) → ltb 6 (length t) ≡ m
-        → refusal_found (cond (eqb (length t) 0) (At none 0) (cond (ltb (first_other t) (length t)) (At OtherByte (skip + first_other t + 1)) (cond (ltb 6 (length t)) (At many (skip + 7)) Fine)))
+        → refusal_found (cond (eqb (length t) 0) (at none 0) (cond (ltb (first_other t) (length t)) (at OtherByte (skip + first_other t + 1)) (cond (ltb 6 (length t)) (at many (skip + 7)) (Ok tt))))
         ≡ cond ((leb 1 (length t) && leb (length t) 6) && every is_digit t) 0 51
     go zero h e f m g = rw (eq-eqb (length t) 0 h, lt-leb 1 (length t) (omega arith)) a
     go (suc n) h false f m g = rw (ne_eqb (length t) 0 (λ z. omega arith), others t, f, le-leb 1 (length t) (omega arith)) (sym (ap (λ (x : Bool). cond x 0 51) (and_false (leb (length t) 6))))
@@ -70,12 +71,12 @@ digits_are none many skip t a b = go (length t) refl (every is_digit t) refl (lt
     go (suc n) h true f false g = rw (ne_eqb (length t) 0 (λ z. omega arith), others t, f, g, le-leb 1 (length t) (omega arith), le-leb (length t) 6 (ltb-false _ _ g))
 
 -- a text that has a point is asked before it and then behind it
-joined : (a b p : Bool) (x y : Found) → refusal_found x ≡ cond a 0 51 → refusal_found y ≡ cond b 0 51 → refusal_found (or_else x (cond p y Fine)) ≡ cond (a && (not p || b)) 0 51
-joined true b true Fine y e f = f
-joined true b false Fine y e f = refl
-joined true b p (At fault byte) y e f = absurd (some_number fault e)
-joined false b p Fine y e f = absurd (omega (arith, e))
-joined false b p (At fault byte) y e f = e
+joined : (a b p : Bool) (x y : Result ⊤ Found) → refusal_found x ≡ cond a 0 51 → refusal_found y ≡ cond b 0 51 → refusal_found (or_else x (cond p y (Ok tt))) ≡ cond (a && (not p || b)) 0 51
+joined true b true (Ok tt) y e f = f
+joined true b false (Ok tt) y e f = refl
+joined true b p (Err found) y e f = absurd (some_number found.fault e)
+joined false b p (Ok tt) y e f = absurd (omega (arith, e))
+joined false b p (Err found) y e f = e
 
 unsigned_are : (skip : ℕ) (u : List ℕ) → refusal_found (unsigned_fault skip u) ≡ cond (is_unsigned u) 0 51
 unfolding unsigned_fault is_unsigned
@@ -97,7 +98,7 @@ number_are [] = ap (λ (x : Bool). cond x 0 51) (sym none-is-none)
 number_are (b ∷ bs) = rw (ne_eqb (suc (length bs)) 0 (λ z. omega arith)) (go (unsigned_part (b ∷ bs)) (cond (is_negative (b ∷ bs)) 1 0))
   where
     -- behind the sign
-    go : (u : List ℕ) (skip : ℕ) → refusal_found (cond (eqb (length u) 0) (At MinusAlone 0) (unsigned_fault skip u)) ≡ cond (is_unsigned u) 0 51
+    go : (u : List ℕ) (skip : ℕ) → refusal_found (cond (eqb (length u) 0) (at MinusAlone 0) (unsigned_fault skip u)) ≡ cond (is_unsigned u) 0 51
     go [] skip = ap (λ (x : Bool). cond x 0 51) (sym none-is-none)
     go (c ∷ cs) skip = rw (ne_eqb (suc (length cs)) 0 (λ z. omega arith)) (unsigned_are skip (c ∷ cs))
 
@@ -105,7 +106,7 @@ pub minus-one_are : (t : List ℕ) → refusal_found (minus_one_fault t) ≡ con
 unfolding minus_one_fault
 minus-one_are t = go (is_minus_one t)
   where
-    go : (b : Bool) → refusal_found (cond b Fine (At NotMinusOne 0)) ≡ cond b 0 51
+    go : (b : Bool) → refusal_found (cond b (Ok tt) (at NotMinusOne 0)) ≡ cond b 0 51
     go true = refl
     go false = refl
 
@@ -113,7 +114,7 @@ pub id_are : (t : List ℕ) → refusal_found (id_fault t) ≡ cond (is_minus_on
 unfolding id_fault
 id_are t = go (is_minus_one t) (is_frame t)
   where
-    go : (b c : Bool) → refusal_found (cond b Fine (cond c (At FilledId 0) (At NotMinusOne 0))) ≡ cond b 0 51
+    go : (b c : Bool) → refusal_found (cond b (Ok tt) (cond c (at FilledId 0) (at NotMinusOne 0))) ≡ cond b 0 51
     go true c = refl
     go false true = refl
     go false false = refl

@@ -29,11 +29,11 @@ use Rattle.mot_line.proofs.Theorem as lines
 use Rattle.mot_line.proofs.Texts.{text, text-body}
 use Rattle.mot_fault.specs.declared.kinds.Fault.TheVariants.{NotAboveZero, Beyond, BelowZero, AboveOne, FrameZero, FrameBack, FirstFrameFar, FrameFar, FieldCount, NoLineFeed, EmptyLine, CarriageReturn}
 use Rattle.mot_fault.specs.declared.kinds.Found.{Found}
-use Rattle.mot_fault.specs.declared.kinds.Found.TheVariants.{Fine, At}
+use Rattle.std.specs.Bool.{⊤}
+use Rattle.std.proofs.Common.{Result, Ok, Err}
 use Rattle.mot_fault.specs.declared.kinds.Report.{Report}
-use Rattle.mot_fault.specs.declared.kinds.Report.TheVariants as report
-use Rattle.mot_fault.specs.Form.{field_fault}
-use Rattle.mot_fault.specs.Value.{frame_value, place_value, side_value, score_value, in_field, value_fault}
+use Rattle.mot_fault.specs.Form.{at, field_fault}
+use Rattle.mot_fault.specs.Value.{reported, frame_value, place_value, side_value, score_value, in_field, value_fault}
 use Rattle.mot_fault.specs.Line.{ends_with, first_fault, or_else, value_report, field_report, report_of}
 use Rattle.mot_fault.specs.Laws.{refusal_found, refusal_reported, Laws}
 use Rattle.mot_fault.proofs.FieldFaults.{some_number, frame_are, number_are, minus-one_are, id_are}
@@ -48,11 +48,11 @@ agrees : Agree detection 1
 unfolding field_fault
 agrees = (frame_are, (id_are, (number_are, (number_are, (number_are, (number_are, (number_are, (minus-one_are, (minus-one_are, (minus-one_are, tt))))))))))
 
-form_then : (i : ℕ) (p : Bool) (x : Found) (later : Report) → refusal_found x ≡ cond p 0 51 → refusal_reported (in_field i x later) ≡ cond p (refusal_reported later) 51
-form_then i true Fine later e = refl
-form_then i true (At fault byte) later e = absurd (some_number fault e)
-form_then i false Fine later e = absurd (omega (arith, e))
-form_then i false (At fault byte) later e = e
+form_then : (i : ℕ) (p : Bool) (x : Result ⊤ Found) (later : Result ⊤ Report) → refusal_found x ≡ cond p 0 51 → refusal_reported (in_field i x later) ≡ cond p (refusal_reported later) 51
+form_then i true (Ok tt) later e = refl
+form_then i true (Err found) later e = absurd (some_number found.fault e)
+form_then i false (Ok tt) later e = absurd (omega (arith, e))
+form_then i false (Err found) later e = e
 
 first_fault_lem : (ps : List Form) (i : ℕ) (fs : List (List ℕ)) → Agree ps i → length fs ≡ length ps → refusal_reported (first_fault (length ps) i fs) ≡ cond (of_forms ps fs) 0 51
 unfolding first_fault of_forms
@@ -79,17 +79,17 @@ other_count (p ∷ ps) (f ∷ fs) n = go (p f) (other_count ps fs (λ e. n (ap s
 
 -- ---- values
 
-value-then : (i : ℕ) (q : Bool) (x : Found) (later : Report) → refusal_found x ≡ cond q 52 0 → refusal_reported (in_field i x later) ≡ cond q 52 (refusal_reported later)
-value-then i true Fine later e = absurd (omega (arith, e))
-value-then i true (At fault byte) later e = e
-value-then i false Fine later e = refl
-value-then i false (At fault byte) later e = absurd (some_number fault e)
+value-then : (i : ℕ) (q : Bool) (x : Result ⊤ Found) (later : Result ⊤ Report) → refusal_found x ≡ cond q 52 0 → refusal_reported (in_field i x later) ≡ cond q 52 (refusal_reported later)
+value-then i true (Ok tt) later e = absurd (omega (arith, e))
+value-then i true (Err found) later e = e
+value-then i false (Ok tt) later e = refl
+value-then i false (Err found) later e = absurd (some_number found.fault e)
 
 frame_is : (previous frame : ℕ) → refusal_found (frame_value previous frame) ≡ cond (bad_frame previous frame) 52 0
 unfolding frame_value bad_frame
 frame_is previous frame = go (eqb frame 0) (ltb frame previous) (ltb most_frames_on (frame - previous)) (eqb previous 0)
   where
-    go : (a b c first : Bool) → refusal_found (cond a (At FrameZero 0) (cond b (At FrameBack 0) (cond c (cond first (At FirstFrameFar 0) (At FrameFar 0)) Fine))) ≡ cond ((a || b) || c) 52 0
+    go : (a b c first : Bool) → refusal_found (cond a (at FrameZero 0) (cond b (at FrameBack 0) (cond c (cond first (at FirstFrameFar 0) (at FrameFar 0)) (Ok tt)))) ≡ cond ((a || b) || c) 52 0
     go true b c first = refl
     go false true c first = refl
     go false false true true = refl
@@ -100,7 +100,7 @@ place_is : (x : Float) → refusal_found (place_value x) ≡ cond (beyond x) 52 
 unfolding place_value
 place_is x = go (beyond x)
   where
-    go : (b : Bool) → refusal_found (cond b (At Beyond 0) Fine) ≡ cond b 52 0
+    go : (b : Bool) → refusal_found (cond b (at Beyond 0) (Ok tt)) ≡ cond b 52 0
     go true = refl
     go false = refl
 
@@ -108,7 +108,7 @@ side-is : (x : Float) → refusal_found (side_value x) ≡ cond (not (lt plus_ze
 unfolding side_value
 side-is x = go (not (lt plus_zero x)) (place_is x)
   where
-    go : (b : Bool) → refusal_found (place_value x) ≡ cond (beyond x) 52 0 → refusal_found (cond b (At NotAboveZero 0) (place_value x)) ≡ cond (b || beyond x) 52 0
+    go : (b : Bool) → refusal_found (place_value x) ≡ cond (beyond x) 52 0 → refusal_found (cond b (at NotAboveZero 0) (place_value x)) ≡ cond (b || beyond x) 52 0
     go true e = refl
     go false e = e
 
@@ -116,7 +116,7 @@ score-is : (x : Float) → refusal_found (score_value x) ≡ cond (lt x plus_zer
 unfolding score_value
 score-is x = go (lt x plus_zero) (lt one x)
   where
-    go : (a b : Bool) → refusal_found (cond a (At BelowZero 0) (cond b (At AboveOne 0) Fine)) ≡ cond (a || b) 52 0
+    go : (a b : Bool) → refusal_found (cond a (at BelowZero 0) (cond b (at AboveOne 0) (Ok tt))) ≡ cond (a || b) 52 0
     go true b = refl
     go false true = refl
     go false false = refl
@@ -154,19 +154,19 @@ bad-box-is b f = rw (f.left, f.top, f.width, f.height, f.score)
 
 module _ (previous : ℕ) (b : BoxRecord) where
   -- what is said from a value on, and whether that value is refused
-  abbrev from-score : Report
-  from-score = in_field 7 (score_value b.score) report.Fine
+  abbrev from-score : Result ⊤ Report
+  from-score = in_field 7 (score_value b.score) (Ok tt)
 
-  abbrev from-height : Report
+  abbrev from-height : Result ⊤ Report
   from-height = in_field 6 (side_value b.height) from-score
 
-  abbrev from-width : Report
+  abbrev from-width : Result ⊤ Report
   from-width = in_field 5 (side_value b.width) from-height
 
-  abbrev from-top : Report
+  abbrev from-top : Result ⊤ Report
   from-top = in_field 4 (place_value b.top) from-width
 
-  abbrev from-left : Report
+  abbrev from-left : Result ⊤ Report
   from-left = in_field 3 (place_value b.left) from-top
 
   abbrev bad-side : Float → Bool
@@ -176,7 +176,7 @@ module _ (previous : ℕ) (b : BoxRecord) where
   bad-score = lt b.score plus_zero || lt one b.score
 
   height-said : refusal_reported from-height ≡ cond (bad-side b.height) 52 (cond bad-score 52 0)
-  height-said = value-then 6 (bad-side b.height) (side_value b.height) from-score (side-is b.height) ∙ ap (cond (bad-side b.height) 52) (value-then 7 bad-score (score_value b.score) report.Fine (score-is b.score))
+  height-said = value-then 6 (bad-side b.height) (side_value b.height) from-score (side-is b.height) ∙ ap (cond (bad-side b.height) 52) (value-then 7 bad-score (score_value b.score) (Ok tt) (score-is b.score))
 
   width-said : refusal_reported from-width ≡ cond (bad-side b.width) 52 (cond (bad-side b.height) 52 (cond bad-score 52 0))
   width-said = value-then 5 (bad-side b.width) (side_value b.width) from-height (side-is b.width) ∙ ap (cond (bad-side b.width) 52) height-said
@@ -242,11 +242,11 @@ no_return d = ap (ends_with 13) (text-body d) ∙ other (text d) 49 ends (λ e. 
 
 -- ---- a line
 
-or_else_lem : (p : Bool) (x y : Report) → refusal_reported x ≡ cond p 0 51 → refusal_reported (or_else x y) ≡ cond p (refusal_reported y) 51
-or_else_lem true report.Fine y e = refl
-or_else_lem true (report.Field fault i byte) y e = absurd (some_number fault e)
-or_else_lem false report.Fine y e = absurd (omega (arith, e))
-or_else_lem false (report.Field fault i byte) y e = e
+or_else_lem : (p : Bool) (x y : Result ⊤ Report) → refusal_reported x ≡ cond p 0 51 → refusal_reported (or_else x y) ≡ cond p (refusal_reported y) 51
+or_else_lem true (Ok tt) y e = refl
+or_else_lem true (Err found) y e = absurd (some_number found.fault e)
+or_else_lem false (Ok tt) y e = absurd (omega (arith, e))
+or_else_lem false (Err found) y e = e
 
 ended_same : (l : List ℕ) → ends_with 10 l ≡ is_ended l
 ended_same [] = refl
@@ -271,7 +271,7 @@ module _ (l : List ℕ) (previous : ℕ) where
   fs = fields (body l)
 
   -- the forms of the fields, and then their values
-  abbrev looked : Report
+  abbrev looked : Result ⊤ Report
   looked = or_else (first_fault 10 1 fs) (value_report previous (line_of l))
 
   in-ten : is_detection l ≡ of_forms detection fs → length fs ≡ 10 → refusal_reported looked ≡ verdict (of_forms detection fs)
@@ -288,7 +288,7 @@ module _ (l : List ℕ) (previous : ℕ) where
       fewer : length fs ≡ 10 → min (length fs) 11 ≡ 10
       fewer n = omega (arith, n)
 
-      go : (b : Bool) → eqb (min (length fs) 11) 10 ≡ b → refusal_reported (cond (not b) (report.Field FieldCount (min (length fs) 11) 0) looked) ≡ verdict (of_forms detection fs)
+      go : (b : Bool) → eqb (min (length fs) 11) 10 ≡ b → refusal_reported (cond (not b) (reported FieldCount (min (length fs) 11) 0) looked) ≡ verdict (of_forms detection fs)
       go true e = let m = eqb-true (min (length fs) 11) 10 e in in-ten same (omega (arith, m))
       go false e = let m = eqb-false (min (length fs) 11) 10 e in sym (ap verdict (other_count detection fs (λ n. m (fewer n))))
 
@@ -298,7 +298,7 @@ module _ (l : List ℕ) (previous : ℕ) where
   empty-line z = other_count detection fs (λ n. omega (arith, n, ap (λ (k : ℕ). length (fields (take k l))) z))
 
   by_tests_lem : (z r : Bool) → eqb (length l - 1) 0 ≡ z → ends_with 13 (body l) ≡ r → is_detection l ≡ of_forms detection fs
-      → refusal_reported (cond z (report.Field EmptyLine 0 0) (cond r (report.Field CarriageReturn 0 0) (field_report l fs previous))) ≡ verdict (of_forms detection fs)
+      → refusal_reported (cond z (reported EmptyLine 0 0) (cond r (reported CarriageReturn 0 0) (field_report l fs previous))) ≡ verdict (of_forms detection fs)
   by_tests_lem true r e f same = sym (ap verdict (empty-line (eqb-true _ _ e)))
   by_tests_lem false true e f same = go (of_forms detection fs) refl
     where
@@ -312,7 +312,7 @@ module _ (l : List ℕ) (previous : ℕ) where
   reported-is = go (is_ended l) refl
     where
       go : (b : Bool) → is_ended l ≡ b
-          → refusal_reported (cond (not (ends_with 10 l)) (report.Field NoLineFeed 0 0) (cond (eqb (length l - 1) 0) (report.Field EmptyLine 0 0) (cond (ends_with 13 (body l)) (report.Field CarriageReturn 0 0) (field_report l fs previous))))
+          → refusal_reported (cond (not (ends_with 10 l)) (reported NoLineFeed 0 0) (cond (eqb (length l - 1) 0) (reported EmptyLine 0 0) (cond (ends_with 13 (body l)) (reported CarriageReturn 0 0) (field_report l fs previous))))
           ≡ verdict (is_ended l && of_forms detection fs)
       go true e = rw (ended_same l, e) (by_tests_lem _ _ refl refl (ap (λ (x : Bool). x && of_forms detection fs) e))
       go false e = rw (ended_same l, e)

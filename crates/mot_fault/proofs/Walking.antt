@@ -11,11 +11,10 @@ use Rattle.mot_number.specs.Index.{index_of}
 use Rattle.mot_fields.specs.Fields.{fields}
 use Rattle.mot_fields.specs.Reading.{first}
 use Rattle.mot_fields.proofs.Cutting.{cut, followed, alone}
-use Rattle.mot_fault.specs.declared.kinds.Fault.{Fault}
 use Rattle.mot_fault.specs.declared.kinds.Found.{Found}
-use Rattle.mot_fault.specs.declared.kinds.Found.TheVariants as found
+use Rattle.std.specs.Bool.{⊤}
+use Rattle.std.proofs.Common.{Result, Ok, Err}
 use Rattle.mot_fault.specs.declared.kinds.Report.{Report}
-use Rattle.mot_fault.specs.declared.kinds.Report.TheVariants as report
 use Rattle.mot_fault.specs.Form.{field_fault}
 use Rattle.mot_fault.specs.Value.{in_field}
 use Rattle.mot_fault.specs.Line.{first_fault}
@@ -74,7 +73,7 @@ module _ {b : List ℕ} {at n : ℕ} (w : Counted b at n) where
         let u = w.upto in
         record { upto = omega arith; few = omega arith; rest = omega arith }
 
-  pub count-full : 11 ≤ n → n ≡ min (length (fields b)) 11
+  pub count-full : 11 ≤ n → 11 ≡ min (length (fields b)) 11
   count-full h = let r = w.rest in let f = w.few in let s = some_field (drop at b) in omega arith
 
 -- ---- the first that is not of its form
@@ -91,16 +90,16 @@ fault_step : (n i : ℕ) (f : List ℕ) (fs : List (List ℕ)) → first_fault (
 unfolding first_fault
 fault_step n i f fs = refl
 
-none_left : (n i : ℕ) → first_fault n i [] ≡ report.Fine
+none_left : (n i : ℕ) → first_fault n i [] ≡ Ok tt
 unfolding first_fault
 none_left zero i = refl
 none_left (suc n) i = refl
 
-no_fuel : (i : ℕ) (fs : List (List ℕ)) → first_fault zero i fs ≡ report.Fine
+no_fuel : (i : ℕ) (fs : List (List ℕ)) → first_fault zero i fs ≡ Ok tt
 unfolding first_fault
 no_fuel i fs = refl
 
-module _ {b : List ℕ} {at i : ℕ} (w : Looked b at i) (h : i < 11) (e : ℕ) (is : e ≡ index_of 44 (after b at)) (r : Found) (f : r ≡ field_fault i (take e (after b at))) where
+module _ {b : List ℕ} {at i : ℕ} (w : Looked b at i) (h : i < 11) (e : ℕ) (is : e ≡ index_of 44 (after b at)) (r : Result ⊤ Found) (f : r ≡ field_fault i (take e (after b at))) where
   fuel : 11 - i ≡ suc (10 - i)
   fuel = omega arith
 
@@ -111,18 +110,27 @@ module _ {b : List ℕ} {at i : ℕ} (w : Looked b at i) (h : i < 11) (e : ℕ) 
   step : (more : List (List ℕ)) → fields (drop at b) ≡ first (drop at b) ∷ more → first_fault 10 1 (fields b) ≡ in_field i r (first_fault (10 - i) (i + 1) more)
   step more g =
       sym w.rest ∙ ap (λ (n : ℕ). first_fault n i (fields (drop at b))) fuel ∙ ap (first_fault (suc (10 - i)) i) g ∙ fault_step (10 - i) i (first (drop at b)) more
-      ∙ ap (λ (x : Found). in_field i x (first_fault (10 - i) (i + 1) more)) (sym found-is)
+      ∙ ap (λ (x : Result ⊤ Found). in_field i x (first_fault (10 - i) (i + 1) more)) (sym found-is)
 
-  pub look_found : (fault : Fault) (byte : ℕ) → r ≡ found.At fault byte → (said : Report) → said ≡ in_field i r report.Fine → said ≡ first_fault 10 1 (fields b)
-  look_found fault byte m said g = g ∙ same report.Fine _ ∙ sym (step _ (cut (drop at b)))
+  -- what is said of the later ones is not asked behind a fault
+  pub look_found : (s : Result ⊤ Report) → s ≡ in_field i r (Ok tt) → (x : Report) → s ≡ Err x → s ≡ first_fault 10 1 (fields b)
+  look_found s g x m = g ∙ same r _ (sym g ∙ m) ∙ sym (step _ (cut (drop at b)))
     where
-      -- what is said of the later ones is not asked
-      same : (x y : Report) → in_field i r x ≡ in_field i r y
-      same x y = ap (λ (z : Found). in_field i z x) m ∙ sym (ap (λ (z : Found). in_field i z y) m)
+      same : (r : Result ⊤ Found) (y : Result ⊤ Report) → in_field i r (Ok tt) ≡ Err x → in_field i r (Ok tt) ≡ in_field i r y
+      same (Ok u) y k = cc
+      same (Err f) y k = refl
 
-  module _ (m : r ≡ found.Fine) where
-    pub look_ends : length (after b at) ≤ e → report.Fine ≡ first_fault 10 1 (fields b)
-    look_ends l = sym (step [] (ends b at e is l) ∙ ap (λ (x : Found). in_field i x (first_fault (10 - i) (i + 1) [])) m ∙ none_left (10 - i) (i + 1))
+  -- a field without a fault
+  pub look_fine : (s : Result ⊤ Report) → s ≡ in_field i r (Ok tt) → s ≡ Ok tt → r ≡ Ok tt
+  look_fine s g m = go r (sym g ∙ m)
+    where
+      go : (r : Result ⊤ Found) → in_field i r (Ok tt) ≡ Ok tt → r ≡ Ok tt
+      go (Ok u) k = refl
+      go (Err f) k = cc
+
+  module _ (m : r ≡ Ok tt) where
+    pub look_ends : length (after b at) ≤ e → Ok tt ≡ first_fault 10 1 (fields b)
+    look_ends l = sym (step [] (ends b at e is l) ∙ ap (λ (x : Result ⊤ Found). in_field i x (first_fault (10 - i) (i + 1) [])) m ∙ none_left (10 - i) (i + 1))
 
     pub look_on : e < length (after b at) → Looked b (at + (e + 1)) (i + 1)
     look_on l =
@@ -133,8 +141,8 @@ module _ {b : List ℕ} {at i : ℕ} (w : Looked b at i) (h : i < 11) (e : ℕ) 
           upto = omega arith;
           few = omega arith;
           rest = ap (λ (k : ℕ). first_fault k (i + 1) (fields (drop (at + (e + 1)) b))) n
-              ∙ sym (step (fields (drop (at + (e + 1)) b)) (goes_on b at e is l) ∙ ap (λ (x : Found). in_field i x (first_fault (10 - i) (i + 1) (fields (drop (at + (e + 1)) b)))) m);
+              ∙ sym (step (fields (drop (at + (e + 1)) b)) (goes_on b at e is l) ∙ ap (λ (x : Result ⊤ Found). in_field i x (first_fault (10 - i) (i + 1) (fields (drop (at + (e + 1)) b)))) m);
         }
 
-pub look_full : {b : List ℕ} {at i : ℕ} → Looked b at i → 11 ≤ i → report.Fine ≡ first_fault 10 1 (fields b)
+pub look_full : {b : List ℕ} {at i : ℕ} → Looked b at i → 11 ≤ i → Ok tt ≡ first_fault 10 1 (fields b)
 look_full {b} {at} {i} w h = let n : 11 - i ≡ 0 = omega arith in sym (sym w.rest ∙ ap (λ (k : ℕ). first_fault k i (fields (drop at b))) n ∙ no_fuel i (fields (drop at b)))

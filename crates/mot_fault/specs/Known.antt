@@ -1,5 +1,5 @@
 -- Examples that the definitions compute: lines as real files have them that are turned away, the first of a text but for the last three.
-use Rattle.std.specs.Prelude.{◌≡◌, refl, List, [], ◌∷◌, map, ℕ}
+use Rattle.std.specs.Prelude.{◌≡◌, refl, List, [], ◌∷◌, map, ℕ, Ok}
 use Rattle.std.specs.Float.Ieee.{of_bits, round, lt, neg}
 use Rattle.mot_number.specs.Index.{index_of, index_after}
 use Rattle.laws.specs.Scan.{scan}
@@ -10,9 +10,8 @@ use Rattle.mot_fields.specs.Fields.{fields, of_forms, is_line}
 use Rattle.mot_line.specs.Line.{line_of}
 use Rattle.mot_fault.specs.declared.kinds.Fault.TheVariants.{NoLineFeed, EmptyLine, CarriageReturn, FieldCount, Empty, OtherByte, MinusAlone, NoDigits, ManyDigits, NoDecimals, ManyDecimals, NotMinusOne, FilledId}
 use Rattle.mot_fault.specs.declared.kinds.Fault.TheVariants.{FrameZero, FrameBack, FirstFrameFar, FrameFar, NotAboveZero, Beyond, BelowZero, AboveOne}
-use Rattle.mot_fault.specs.declared.kinds.Report.TheVariants.{Fine, Field}
 use Rattle.mot_fault.specs.Form.{digits_fault, unsigned_fault, number_fault, minus_one_fault, id_fault, field_fault}
-use Rattle.mot_fault.specs.Value.{frame_value, place_value, side_value, score_value, value_fault}
+use Rattle.mot_fault.specs.Value.{frame_value, place_value, side_value, score_value, reported, value_fault}
 use Rattle.mot_fault.specs.Line.{first_fault, field_report, report_of}
 
 -- `,20,32,64,0.75,-1,-1,-1` and the line feed: what stands behind left in most of them
@@ -27,7 +26,7 @@ known-lines : map (λ (l : List ℕ). report_of l 0) (
     ∷ (49 ∷ 44 ∷ 45 ∷ 49 ∷ 44 ∷ 49 ∷ 48 ∷ 44 ∷ 50 ∷ 48 ∷ 44 ∷ 51 ∷ 50 ∷ 44 ∷ 54 ∷ 52 ∷ 44 ∷ 48 ∷ 46 ∷ 55 ∷ 53 ∷ 44 ∷ 45 ∷ 49 ∷ 44 ∷ 45 ∷ 49 ∷ 44 ∷ 45 ∷ 49 ∷ 13 ∷ 10 ∷ [])
     ∷ (49 ∷ 44 ∷ 45 ∷ 49 ∷ 44 ∷ 49 ∷ 48 ∷ 44 ∷ 50 ∷ 48 ∷ 44 ∷ 51 ∷ 50 ∷ 44 ∷ 54 ∷ 52 ∷ 44 ∷ 48 ∷ 46 ∷ 55 ∷ 53 ∷ 10 ∷ [])
     ∷ (49 ∷ 44 ∷ 45 ∷ 49 ∷ 44 ∷ 49 ∷ 48 ∷ 44 ∷ 50 ∷ 48 ∷ 44 ∷ 51 ∷ 50 ∷ 44 ∷ 54 ∷ 52 ∷ 44 ∷ 48 ∷ 46 ∷ 55 ∷ 53 ∷ 44 ∷ 45 ∷ 49 ∷ 44 ∷ 45 ∷ 49 ∷ 44 ∷ 45 ∷ 49 ∷ 44 ∷ 45 ∷ 49 ∷ 44 ∷ 45 ∷ 49 ∷ 44 ∷ 45 ∷ 49 ∷ 10 ∷ []) ∷ [])
-    ≡ Fine ∷ Field NoLineFeed 0 0 ∷ Field EmptyLine 0 0 ∷ Field CarriageReturn 0 0 ∷ Field FieldCount 7 0 ∷ Field FieldCount 11 0 ∷ []
+    ≡ Ok tt ∷ reported NoLineFeed 0 0 ∷ reported EmptyLine 0 0 ∷ reported CarriageReturn 0 0 ∷ reported FieldCount 7 0 ∷ reported FieldCount 11 0 ∷ []
 unfolding report_of field_report first_fault field_fault digits_fault unsigned_fault number_fault minus_one_fault id_fault scan value_fault frame_value place_value side_value score_value line_of is_line of_forms fields is_unsigned one_to_six every index_of index_after with_digits beyond of_bits round lt neg
 known-lines = refl
 
@@ -44,7 +43,7 @@ known_forms : map (λ (l : List ℕ). report_of l 0) (
     ∷ (49 ∷ 44 ∷ 45 ∷ 49 ∷ 44 ∷ 49 ∷ 48 ∷ 44 ∷ 44 ∷ 51 ∷ 50 ∷ 44 ∷ 54 ∷ 52 ∷ 44 ∷ 48 ∷ 46 ∷ 55 ∷ 53 ∷ 44 ∷ 45 ∷ 49 ∷ 44 ∷ 45 ∷ 49 ∷ 44 ∷ 45 ∷ 49 ∷ 10 ∷ [])
     ∷ (49 ∷ 44 ∷ 45 ∷ 49 ∷ 44 ∷ 49 ∷ 48 ∷ 44 ∷ 50 ∷ 48 ∷ 46 ∷ 44 ∷ 51 ∷ 50 ∷ 44 ∷ 54 ∷ 52 ∷ 44 ∷ 48 ∷ 46 ∷ 55 ∷ 53 ∷ 44 ∷ 45 ∷ 49 ∷ 44 ∷ 45 ∷ 49 ∷ 44 ∷ 45 ∷ 49 ∷ 10 ∷ [])
     ∷ (49 ∷ 44 ∷ 45 ∷ 49 ∷ 44 ∷ 49 ∷ 48 ∷ 44 ∷ 50 ∷ 48 ∷ 44 ∷ 51 ∷ 50 ∷ 44 ∷ 54 ∷ 52 ∷ 44 ∷ 46 ∷ 55 ∷ 53 ∷ 44 ∷ 45 ∷ 49 ∷ 44 ∷ 45 ∷ 49 ∷ 44 ∷ 45 ∷ 49 ∷ 10 ∷ []) ∷ [])
-    ≡ Field OtherByte 1 2 ∷ Field FilledId 2 0 ∷ Field NotMinusOne 2 0 ∷ Field ManyDecimals 3 10 ∷ Field ManyDigits 3 8 ∷ Field MinusAlone 3 0 ∷ Field NoDigits 3 0 ∷ Field OtherByte 4 2 ∷ Field Empty 4 0 ∷ Field NoDecimals 4 0 ∷ Field NoDigits 7 0 ∷ []
+    ≡ reported OtherByte 1 2 ∷ reported FilledId 2 0 ∷ reported NotMinusOne 2 0 ∷ reported ManyDecimals 3 10 ∷ reported ManyDigits 3 8 ∷ reported MinusAlone 3 0 ∷ reported NoDigits 3 0 ∷ reported OtherByte 4 2 ∷ reported Empty 4 0 ∷ reported NoDecimals 4 0 ∷ reported NoDigits 7 0 ∷ []
 unfolding report_of field_report first_fault field_fault digits_fault unsigned_fault number_fault minus_one_fault id_fault scan value_fault frame_value place_value side_value score_value line_of is_line of_forms fields is_unsigned one_to_six every index_of index_after with_digits beyond of_bits round lt neg
 known_forms = refl
 
@@ -56,7 +55,7 @@ known_values : map (λ (l : List ℕ). report_of l 0) (
     ∷ (49 ∷ 44 ∷ 45 ∷ 49 ∷ 44 ∷ 49 ∷ 48 ∷ 44 ∷ 50 ∷ 48 ∷ 44 ∷ 51 ∷ 50 ∷ 44 ∷ 48 ∷ 44 ∷ 48 ∷ 46 ∷ 55 ∷ 53 ∷ 44 ∷ 45 ∷ 49 ∷ 44 ∷ 45 ∷ 49 ∷ 44 ∷ 45 ∷ 49 ∷ 10 ∷ [])
     ∷ (49 ∷ 44 ∷ 45 ∷ 49 ∷ 44 ∷ 49 ∷ 48 ∷ 44 ∷ 50 ∷ 48 ∷ 44 ∷ 51 ∷ 50 ∷ 44 ∷ 54 ∷ 52 ∷ 44 ∷ 49 ∷ 46 ∷ 53 ∷ 44 ∷ 45 ∷ 49 ∷ 44 ∷ 45 ∷ 49 ∷ 44 ∷ 45 ∷ 49 ∷ 10 ∷ [])
     ∷ (49 ∷ 44 ∷ 45 ∷ 49 ∷ 44 ∷ 49 ∷ 48 ∷ 44 ∷ 50 ∷ 48 ∷ 44 ∷ 51 ∷ 50 ∷ 44 ∷ 54 ∷ 52 ∷ 44 ∷ 45 ∷ 48 ∷ 46 ∷ 53 ∷ 44 ∷ 45 ∷ 49 ∷ 44 ∷ 45 ∷ 49 ∷ 44 ∷ 45 ∷ 49 ∷ 10 ∷ []) ∷ [])
-    ≡ Field FrameZero 1 0 ∷ Field FirstFrameFar 1 0 ∷ Field Beyond 3 0 ∷ Field NotAboveZero 6 0 ∷ Field AboveOne 7 0 ∷ Field BelowZero 7 0 ∷ []
+    ≡ reported FrameZero 1 0 ∷ reported FirstFrameFar 1 0 ∷ reported Beyond 3 0 ∷ reported NotAboveZero 6 0 ∷ reported AboveOne 7 0 ∷ reported BelowZero 7 0 ∷ []
 unfolding report_of field_report first_fault field_fault digits_fault unsigned_fault number_fault minus_one_fault id_fault scan value_fault frame_value place_value side_value score_value line_of is_line of_forms fields is_unsigned one_to_six every index_of index_after with_digits beyond of_bits round lt neg
 known_values = refl
 
@@ -65,6 +64,6 @@ known-frames : map (λ (l : List ℕ). report_of l 7) (
     (54 ∷ 44 ∷ 45 ∷ 49 ∷ 44 ∷ 49 ∷ 48 ∷ tail)
     ∷ (55 ∷ 44 ∷ 45 ∷ 49 ∷ 44 ∷ 49 ∷ 48 ∷ tail)
     ∷ (49 ∷ 48 ∷ 48 ∷ 56 ∷ 44 ∷ 45 ∷ 49 ∷ 44 ∷ 49 ∷ 48 ∷ tail) ∷ [])
-    ≡ Field FrameBack 1 0 ∷ Fine ∷ Field FrameFar 1 0 ∷ []
+    ≡ reported FrameBack 1 0 ∷ Ok tt ∷ reported FrameFar 1 0 ∷ []
 unfolding report_of field_report first_fault field_fault digits_fault unsigned_fault number_fault minus_one_fault id_fault scan value_fault frame_value place_value side_value score_value line_of is_line of_forms fields is_unsigned one_to_six every index_of index_after with_digits beyond of_bits round lt neg
 known-frames = refl

@@ -1,5 +1,5 @@
 -- THE THEOREMS of a fault. `laws` of proofs/Theorem.antt proves them.
-use Rattle.std.specs.Prelude.{◌≡◌, Bool, true, false, cond, List, ℕ, ◌≤◌, length}
+use Rattle.std.specs.Prelude.{◌≡◌, Bool, true, false, cond, List, ℕ, ◌≤◌, length, ⊤, Result, Ok, Err}
 use Rattle.records.specs.BoxRecord.{box_bytes}
 use Rattle.mot_number.specs.Number.{is_frame, is_number}
 use Rattle.mot_fields.specs.Fields.{is_minus_one}
@@ -8,9 +8,7 @@ use Rattle.mot_fault.specs.declared.kinds.Fault.{Fault}
 use Rattle.mot_fault.specs.declared.kinds.Fault.TheVariants.{NoLineFeed, EmptyLine, CarriageReturn, FieldCount, Empty, OtherByte, MinusAlone, NoDigits, ManyDigits, NoDecimals, ManyDecimals, NotMinusOne, FilledId}
 use Rattle.mot_fault.specs.declared.kinds.Fault.TheVariants.{FrameZero, FrameBack, FirstFrameFar, FrameFar, NotAboveZero, Beyond, BelowZero, AboveOne}
 use Rattle.mot_fault.specs.declared.kinds.Found.{Found}
-use Rattle.mot_fault.specs.declared.kinds.Found.TheVariants as found
 use Rattle.mot_fault.specs.declared.kinds.Report.{Report}
-use Rattle.mot_fault.specs.declared.kinds.Report.TheVariants as report
 use Rattle.mot_fault.specs.Form.{digits_fault, number_fault, minus_one_fault, id_fault}
 use Rattle.mot_fault.specs.Line.{report_of}
 
@@ -43,13 +41,13 @@ abbrev pub refusal_of : Fault → ℕ
 refusal_of fault = cond (of_value fault) 52 51
 
 -- 0 where nothing is wrong
-abbrev pub refusal_found : Found → ℕ
-refusal_found found.Fine = 0
-refusal_found (found.At fault byte) = refusal_of fault
+abbrev pub refusal_found : Result ⊤ Found → ℕ
+refusal_found (Ok _) = 0
+refusal_found (Err found) = refusal_of found.fault
 
-abbrev pub refusal_reported : Report → ℕ
-refusal_reported report.Fine = 0
-refusal_reported (report.Field fault i byte) = refusal_of fault
+abbrev pub refusal_reported : Result ⊤ Report → ℕ
+refusal_reported (Ok _) = 0
+refusal_reported (Err report) = refusal_of report.fault
 
 -- ---- the theorems
 

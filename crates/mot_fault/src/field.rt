@@ -3,9 +3,9 @@ ghost use Rattle.std.specs.Prelude.{◌≡◌, not, ◌+◌, ◌<◌, length};
 ghost use Rattle.mot_number.specs.Number.{is_digit};
 ghost use Rattle.mot_fault.specs.Form as Form;
 
-use crate::kinds::{Fault, Found};
+use crate::kinds::{Fault, Found, at};
 use mot_fields::minus_one;
-use mot_number::{FrameNumber, find, frame_of};
+use mot_number::{find, frame_of};
 
 fn is_other(b: u8) -> bool
     ensures { result ≡ not (is_digit b) }
@@ -17,49 +17,40 @@ fn is_other(b: u8) -> bool
 fn first_other(text: &[u8]) -> usize
     ensures { result ≡ Form.first_other text.now }
 {
-    let n = text.len();
-    let mut i = 0;
-    while i < n {
-        if is_other(text[i]) {
-            return i;
-        }
-        i += 1;
-    }
-    i
+    text.iter().position(|&b| is_other(b)).unwrap_or(text.len())
 }
 
 // Of a text that is to be one to six digits, behind `skip` bytes of its field; `none` and `many` are its faults where it has no digit, and where it has more.
-fn digits_fault(text: &[u8], skip: usize, none: Fault, many: Fault) -> Found
+#[tactic(auto, unfolding(crate::specs::Form::digits_fault))]
+fn digits_fault(text: &[u8], skip: usize, none: Fault, many: Fault) -> Result<(), Found>
     requires { skip + length text.now < 18446744073709551616 }
     ensures { result ≡ Form.digits_fault none many skip text.now }
 {
     let n = text.len();
     if n == 0 {
-        return Found::At(none, 0);
+        return at(none, 0);
     }
     let other = first_other(text);
     if other < n {
-        return Found::At(Fault::OtherByte, skip + other + 1);
+        return at(Fault::OtherByte, skip + other + 1);
     }
     if 6 < n {
-        return Found::At(many, skip + 7);
+        return at(many, skip + 7);
     }
-    Found::Fine
+    Ok(())
 }
 
 // Of a number behind its sign.
-fn unsigned_fault(text: &[u8], skip: usize) -> Found
+#[tactic(auto, unfolding(crate::specs::Form::unsigned_fault))]
+fn unsigned_fault(text: &[u8], skip: usize) -> Result<(), Found>
     requires { skip + length text.now < 18446744073709551616 }
     ensures { result ≡ Form.unsigned_fault skip text.now }
 {
     let n = text.len();
     let point = find(text, b'.');
-    let whole = digits_fault(&text[..point], skip, Fault::NoDigits, Fault::ManyDigits);
-    let Found::Fine = whole else {
-        return whole;
-    };
+    digits_fault(&text[..point], skip, Fault::NoDigits, Fault::ManyDigits)?;
     if point == n {
-        return Found::Fine;
+        return Ok(());
     }
     let next = point + 1;
     digits_fault(
@@ -70,45 +61,49 @@ fn unsigned_fault(text: &[u8], skip: usize) -> Found
     )
 }
 
-fn number_fault(text: &[u8]) -> Found
+#[tactic(auto, unfolding(crate::specs::Form::number_fault))]
+fn number_fault(text: &[u8]) -> Result<(), Found>
     ensures { result ≡ Form.number_fault text.now }
 {
     if text.len() == 0 {
-        return Found::At(Fault::Empty, 0);
+        return at(Fault::Empty, 0);
     }
     if text[0] != b'-' {
         return unsigned_fault(text, 0);
     }
     if text.len() == 1 {
-        return Found::At(Fault::MinusAlone, 0);
+        return at(Fault::MinusAlone, 0);
     }
     unsigned_fault(&text[1..], 1)
 }
 
-fn minus_one_fault(text: &[u8]) -> Found
+#[tactic(auto, unfolding(crate::specs::Form::minus_one_fault))]
+fn minus_one_fault(text: &[u8]) -> Result<(), Found>
     ensures { result ≡ Form.minus_one_fault text.now }
 {
     if minus_one(text) {
-        return Found::Fine;
+        return Ok(());
     }
-    Found::At(Fault::NotMinusOne, 0)
+    at(Fault::NotMinusOne, 0)
 }
 
 // One to six digits are an id that is filled in, as in a result line.
-fn id_fault(text: &[u8]) -> Found
+#[tactic(auto, unfolding(crate::specs::Form::id_fault, mot_number::specs::Number::frame_number))]
+fn id_fault(text: &[u8]) -> Result<(), Found>
     ensures { result ≡ Form.id_fault text.now }
 {
     if minus_one(text) {
-        return Found::Fine;
+        return Ok(());
     }
-    let FrameNumber::Value(_) = frame_of(text) else {
-        return Found::At(Fault::NotMinusOne, 0);
-    };
-    Found::At(Fault::FilledId, 0)
+    if frame_of(text).is_none() {
+        return at(Fault::NotMinusOne, 0);
+    }
+    at(Fault::FilledId, 0)
 }
 
 // Of field i, counted from 1.
-pub(crate) fn field_fault(i: usize, text: &[u8]) -> Found
+#[tactic(auto, unfolding(crate::specs::Form::field_fault))]
+pub(crate) fn field_fault(i: usize, text: &[u8]) -> Result<(), Found>
     ensures { result ≡ Form.field_fault i text.now }
 {
     if i == 1 {

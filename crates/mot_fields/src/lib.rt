@@ -1,31 +1,13 @@
-// The fields of a line of MOTChallenge text, read from the front: change request N1.
+// The fields of a line of MOTChallenge text, read from the front.
 // Each function that reads a field takes what is left of the line from that field on, and says where the next field starts in it. So a field that no other follows is turned away.
 #![tactic(auto)]
 
-ghost use Rattle.std.specs.Prelude.{◌≡◌};
+ghost use Rattle.std.specs.Prelude.{◌≡◌, true, MatchOption};
 ghost use Rattle.mot_number.specs.Index.{index_of};
 ghost use Rattle.mot_fields.specs.Fields as Fields;
 ghost use Rattle.mot_fields.specs.Reading as Reading;
 
-use mot_number::{FrameNumber, Number, find, frame_of, number_of};
-
-#[derive(Drop)]
-pub enum FrameField {
-    Number(u32, usize),
-    Malformed,
-}
-
-#[derive(Drop)]
-pub enum NumberField {
-    Value(f32, usize),
-    Malformed,
-}
-
-#[derive(Drop)]
-pub enum MinusOneField {
-    Before(usize),
-    Malformed,
-}
+use mot_number::{find, frame_of, number_of};
 
 // The first comma, or the end where there is none.
 pub fn comma(rest: &[u8]) -> usize
@@ -44,41 +26,40 @@ pub fn minus_one(text: &[u8]) -> bool
     (text[0] == b'-') & (text[1] == b'1')
 }
 
-pub fn frame_field(rest: &[u8]) -> FrameField
+// The first field, and where the one behind it starts; none where no other follows it.
+fn first_field(rest: &[u8]) -> Option<(&[u8], usize)>
+    ensures { MatchOption result (Reading.is_last rest.now ≡ true) (λ found. Reading.IsFirst rest.now found.0.now found.1) }
+{
+    let end = comma(rest);
+    if rest.len() <= end {
+        return None;
+    }
+    Some((&rest[..end], end + 1))
+}
+
+// A frame number, and where the next field starts.
+// Kept: a function over `frame_of` or `number_of` would need a clause of what it is given, and its three lines again at each call.
+pub fn frame_field(rest: &[u8]) -> Option<(u32, usize)>
     ensures { result ≡ Reading.frame_field rest.now }
 {
-    let end = comma(rest);
-    if rest.len() <= end {
-        return FrameField::Malformed;
-    }
-    let FrameNumber::Value(value) = frame_of(&rest[..end]) else {
-        return FrameField::Malformed;
-    };
-    FrameField::Number(value, end + 1)
+    let (text, next) = first_field(rest)?;
+    let value = frame_of(text)?;
+    Some((value, next))
 }
 
-pub fn number_field(rest: &[u8]) -> NumberField
+// A number, and where the next field starts.
+pub fn number_field(rest: &[u8]) -> Option<(f32, usize)>
     ensures { result ≡ Reading.number_field rest.now }
 {
-    let end = comma(rest);
-    if rest.len() <= end {
-        return NumberField::Malformed;
-    }
-    let Number::Value(value) = number_of(&rest[..end]) else {
-        return NumberField::Malformed;
-    };
-    NumberField::Value(value, end + 1)
+    let (text, next) = first_field(rest)?;
+    let value = number_of(text)?;
+    Some((value, next))
 }
 
-pub fn minus_one_field(rest: &[u8]) -> MinusOneField
+// Where the field behind `-1` starts.
+pub fn minus_one_field(rest: &[u8]) -> Option<usize>
     ensures { result ≡ Reading.minus_one_field rest.now }
 {
-    let end = comma(rest);
-    if rest.len() <= end {
-        return MinusOneField::Malformed;
-    }
-    if !minus_one(&rest[..end]) {
-        return MinusOneField::Malformed;
-    }
-    MinusOneField::Before(end + 1)
+    let (text, next) = first_field(rest)?;
+    minus_one(text).then_some(next)
 }

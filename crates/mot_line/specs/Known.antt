@@ -1,5 +1,5 @@
--- Lines as they are written, and what a call answers and leaves, by computation: document 01's box with its record, and each refusal beside a line that just passes it.
-use Rattle.std.specs.Prelude.{◌≡◌, refl, List, [], ◌∷◌, ◌++◌, map, ℕ, replicate}
+-- Lines as they are written, and what a call answers and leaves, by computation: a box with its record, and each refusal beside a line that just passes it.
+use Rattle.std.specs.Prelude.{◌≡◌, refl, List, [], ◌∷◌, ◌++◌, map, ℕ, replicate, Ok}
 use Rattle.std.specs.Float.Ieee.{of_bits, to_bits, round, lt, neg}
 use Rattle.mot_number.specs.Index.{index_of, index_after}
 use Rattle.laws.specs.Every.{every}
@@ -7,7 +7,6 @@ use Rattle.box_verdict.specs.Box.{beyond, bad_box}
 use Rattle.records.specs.Field.{little_endian}
 use Rattle.mot_number.specs.Number.{one_to_six, is_unsigned, with_digits}
 use Rattle.mot_fields.specs.Fields.{fields, of_forms, is_line}
-use Rattle.mot_line.specs.declared.call.Answer.TheVariants.{Read}
 use Rattle.mot_line.specs.Call.{bad_frame, refusal_number, frame_read, first_of, outcome, mot_line}
 
 -- ---- the parts of a line: `,-1,` behind the frame, `,20,` behind left, `,64,` behind width, `,-1,-1,-1` behind the score
@@ -31,9 +30,9 @@ sure = 48 ∷ 46 ∷ 55 ∷ 53 ∷ []
 abbrev feed : List ℕ
 feed = 10 ∷ []
 
--- ---- document 01's box. Two bytes more are lent than a record has
+-- ---- the box. Two bytes more are lent than a record has
 known-record : mot_line (line_with one ten wide sure feed) 0 (replicate 27 170)
-    ≡ outcome (Read 1) (1 ∷ 0 ∷ 0 ∷ 0 ∷ 0 ∷ 0 ∷ 32 ∷ 65 ∷ 0 ∷ 0 ∷ 160 ∷ 65 ∷ 0 ∷ 0 ∷ 0 ∷ 66 ∷ 0 ∷ 0 ∷ 128 ∷ 66 ∷ 0 ∷ 0 ∷ 64 ∷ 63 ∷ 1 ∷ 170 ∷ 170 ∷ [])
+    ≡ outcome (Ok 1) (1 ∷ 0 ∷ 0 ∷ 0 ∷ 0 ∷ 0 ∷ 32 ∷ 65 ∷ 0 ∷ 0 ∷ 160 ∷ 65 ∷ 0 ∷ 0 ∷ 0 ∷ 66 ∷ 0 ∷ 0 ∷ 128 ∷ 66 ∷ 0 ∷ 0 ∷ 64 ∷ 63 ∷ 1 ∷ 170 ∷ 170 ∷ [])
 unfolding mot_line first_of bad_frame bad_box beyond every is_line of_forms fields is_unsigned one_to_six index_of index_after with_digits little_endian of_bits to_bits round lt neg
 known-record = refl
 

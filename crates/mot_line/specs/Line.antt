@@ -1,11 +1,9 @@
--- Document 02, N1: "ten comma-separated fields a line (frame, id, left, top, width, height, confidence and three coordinates), with id and the last three always `-1`, each line ended by a line
--- feed. We want a reader that turns it into box records". N2: "Records read from N1's text get label 1."
-use Rattle.std.specs.Prelude.{Bool, cond, List, [], ◌∷◌, ℕ, get_or, Float}
+-- "Ten comma-separated fields a line (frame, id, left, top, width, height, confidence and three coordinates), with id and the last three always `-1`, each line ended by a line
+-- feed. We want a reader that turns it into box records". Records read from such text get label 1.
+use Rattle.std.specs.Prelude.{Bool, cond, List, [], ◌∷◌, ℕ, get_or, Option, Some, None, Float}
 use Rattle.records.specs.declared.box_record.BoxRecord.{BoxRecord}
 use Rattle.mot_number.specs.Number.{is_frame, frame_of, is_number, decimal_of, f32_of}
 use Rattle.mot_fields.specs.Fields.{fields, Form, is_minus_one, body, is_line}
-use Rattle.mot_line.specs.declared.line.Line.{Line}
-use Rattle.mot_line.specs.declared.line.Line.TheVariants.{Boxed, Malformed}
 
 abbrev pub detection : List Form
 detection =
@@ -32,5 +30,5 @@ abbrev pub box_read : List ℕ → BoxRecord
 box_read l = box_in (fields (body l))
 
 -- a line, with its box where it is of the form
-unfoldable pub line_of : List ℕ → Line
-line_of l = cond (is_detection l) (Boxed (box_read l)) Malformed
+unfoldable pub line_of : List ℕ → Option BoxRecord
+line_of l = cond (is_detection l) (Some (box_read l)) None

@@ -1,10 +1,8 @@
 -- What the private functions hand one another. No public contract cites these.
-use Rattle.std.specs.Prelude.{cond, List, [], ◌∷◌, ℕ}
+use Rattle.std.specs.Prelude.{cond, List, [], ◌∷◌, ℕ, Option, Some, None}
 use Rattle.records.specs.declared.box_record.BoxRecord.{BoxRecord}
 use Rattle.mot_number.specs.Number.{is_number}
 use Rattle.mot_fields.specs.Fields.{Form, is_minus_one, of_forms}
-use Rattle.mot_line.specs.declared.line.Line.{Line}
-use Rattle.mot_line.specs.declared.line.Line.TheVariants.{Boxed, Malformed}
 use Rattle.mot_line.specs.Line.{detection, number_at, box_in}
 
 -- the last fields of a line, from the first coordinate on and from the box on
@@ -18,8 +16,8 @@ box_forms = is_number ∷ is_number ∷ is_number ∷ is_number ∷ is_number �
 abbrev pub box_from : ℕ → List (List ℕ) → BoxRecord
 box_from frame fs = record { frame = frame; left = number_at fs 0; top = number_at fs 1; width = number_at fs 2; height = number_at fs 3; score = number_at fs 4; label = 1 }
 
-unfoldable pub box_fields : ℕ → List (List ℕ) → Line
-box_fields frame fs = cond (of_forms box_forms fs) (Boxed (box_from frame fs)) Malformed
+unfoldable pub box_fields : ℕ → List (List ℕ) → Option BoxRecord
+box_fields frame fs = cond (of_forms box_forms fs) (Some (box_from frame fs)) None
 
-unfoldable pub body_fields : List (List ℕ) → Line
-body_fields fs = cond (of_forms detection fs) (Boxed (box_in fs)) Malformed
+unfoldable pub body_fields : List (List ℕ) → Option BoxRecord
+body_fields fs = cond (of_forms detection fs) (Some (box_in fs)) None

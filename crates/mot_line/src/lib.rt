@@ -1,8 +1,8 @@
-// A line of MOTChallenge detection text as a box record, a line a call: change request N1.
+// A line of MOTChallenge detection text as a box record, a line a call.
 #![tactic(auto)]
 
 mod call;
 mod line;
 
-pub use call::{Answer, MOST_FRAMES_ON, Refusal, mot_line};
-pub use line::{Line, box_of_line};
+pub use call::{MOST_FRAMES_ON, Refusal, mot_line};
+pub use line::box_of_line;

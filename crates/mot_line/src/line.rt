@@ -4,62 +4,43 @@ ghost use Rattle.mot_fields.specs.Fields.{fields, of_forms};
 ghost use Rattle.mot_line.specs.Line as Spec;
 ghost use Rattle.mot_line.specs.Private as Private;
 
-use mot_fields::{
-    FrameField, MinusOneField, NumberField, frame_field, minus_one, minus_one_field, number_field,
-};
+use mot_fields::{frame_field, minus_one, minus_one_field, number_field};
 use records::BoxRecord;
 
 // The label of every box of the desk.
 const SLEEPER: u8 = 1;
 
-// What a line is: a box, or not of this form.
-#[derive(Clone, Copy)]
-pub enum Line {
-    Boxed(BoxRecord),
-    Malformed,
-}
-
 // The three coordinates.
 fn coordinates(rest: &[u8]) -> bool
     ensures { result ≡ of_forms Private.coordinates (fields rest.now) }
 {
-    let MinusOneField::Before(y) = minus_one_field(rest) else {
+    let Some(y) = minus_one_field(rest) else {
         return false;
     };
     let from_y = &rest[y..];
-    let MinusOneField::Before(z) = minus_one_field(from_y) else {
+    let Some(z) = minus_one_field(from_y) else {
         return false;
     };
     minus_one(&from_y[z..])
 }
 
 // The box of this frame, and the coordinates behind it.
-fn box_of(rest: &[u8], frame: u32) -> Line
+fn box_of(rest: &[u8], frame: u32) -> Option<BoxRecord>
     ensures { result ≡ Private.box_fields frame (fields rest.now) }
 {
-    let NumberField::Value(left, a) = number_field(rest) else {
-        return Line::Malformed;
-    };
+    let (left, a) = number_field(rest)?;
     let from_top = &rest[a..];
-    let NumberField::Value(top, b) = number_field(from_top) else {
-        return Line::Malformed;
-    };
+    let (top, b) = number_field(from_top)?;
     let from_width = &from_top[b..];
-    let NumberField::Value(width, c) = number_field(from_width) else {
-        return Line::Malformed;
-    };
+    let (width, c) = number_field(from_width)?;
     let from_height = &from_width[c..];
-    let NumberField::Value(height, d) = number_field(from_height) else {
-        return Line::Malformed;
-    };
+    let (height, d) = number_field(from_height)?;
     let from_score = &from_height[d..];
-    let NumberField::Value(score, e) = number_field(from_score) else {
-        return Line::Malformed;
-    };
+    let (score, e) = number_field(from_score)?;
     if !coordinates(&from_score[e..]) {
-        return Line::Malformed;
+        return None;
     }
-    Line::Boxed(BoxRecord {
+    Some(BoxRecord {
         frame,
         left,
         top,
@@ -71,30 +52,26 @@ fn box_of(rest: &[u8], frame: u32) -> Line
 }
 
 // Frame and id, and the box behind them.
-fn box_of_body(body: &[u8]) -> Line
+fn box_of_body(body: &[u8]) -> Option<BoxRecord>
     ensures { result ≡ Private.body_fields (fields body.now) }
 {
-    let FrameField::Number(frame, id) = frame_field(body) else {
-        return Line::Malformed;
-    };
+    let (frame, id) = frame_field(body)?;
     let from_id = &body[id..];
-    let MinusOneField::Before(left) = minus_one_field(from_id) else {
-        return Line::Malformed;
-    };
+    let left = minus_one_field(from_id)?;
     box_of(&from_id[left..], frame)
 }
 
-// The box of a line, whatever its values are.
-pub fn box_of_line(line: &[u8]) -> Line
+// The box of a line, whatever its values are; none where it is not of this form.
+pub fn box_of_line(line: &[u8]) -> Option<BoxRecord>
     ensures { result ≡ Spec.line_of line.now }
 {
     let n = line.len();
     if n == 0 {
-        return Line::Malformed;
+        return None;
     }
     let end = n - 1;
     if line[end] != b'\n' {
-        return Line::Malformed;
+        return None;
     }
     box_of_body(&line[..end])
 }

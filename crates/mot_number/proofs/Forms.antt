@@ -12,7 +12,7 @@ use lib.Seq.{drop-cons}
 use borrow.Author.Tests.{leb-true, lt-leb, le-leb}
 use Rattle.laws.specs.Tests.{and_left, and_right}
 use Rattle.laws.specs.Every.{every}
-use Rattle.mot_number.specs.declared.number.Digits.TheVariants as digits
+use Rattle.std.specs.Prelude.{None, Some}
 use Rattle.mot_number.specs.Number.{is_digit, one_to_six, with_digits}
 use Rattle.mot_number.specs.Private.{digits_of}
 
@@ -70,23 +70,23 @@ module _ {t : List ℕ} {before i value : ℕ} (w : Counting t before i value) w
 
 -- ---- the returns
 
-pub none_read : (t : List ℕ) (before : ℕ) → length t ≡ 0 → digits.Malformed ≡ digits_of before t
+pub none_read : (t : List ℕ) (before : ℕ) → length t ≡ 0 → None ≡ digits_of before t
 unfolding digits_of one_to_six
 none_read t before e = rw (lt-leb 1 (length t) (omega arith))
 
-pub many_read : (t : List ℕ) (before : ℕ) → 6 < length t → digits.Malformed ≡ digits_of before t
+pub many_read : (t : List ℕ) (before : ℕ) → 6 < length t → None ≡ digits_of before t
 unfolding digits_of one_to_six
 many_read t before h = rw (le-leb 1 (length t) (omega arith), lt-leb (length t) 6 h)
 
 -- a byte that is no digit, however many bytes there are
-pub other_read : (t : List ℕ) (before : ℕ) → every is_digit t ≡ false → digits.Malformed ≡ digits_of before t
+pub other_read : (t : List ℕ) (before : ℕ) → every is_digit t ≡ false → None ≡ digits_of before t
 unfolding digits_of one_to_six
 other_read t before e = rw e (by_length (leb 1 (length t) && leb (length t) 6))
   where
-    by_length : (b : Bool) → digits.Malformed ≡ cond (b && false) (digits.Value (with_digits before t)) digits.Malformed
+    by_length : (b : Bool) → None ≡ cond (b && false) (Some (with_digits before t)) None
     by_length true = refl
     by_length false = refl
 
-pub all_read : (t : List ℕ) (before : ℕ) → (length t ≡ 0 → ⊥) → length t ≤ 6 → (v : ℕ) → (every is_digit t ≡ true) × (v ≡ with_digits before t) → digits.Value v ≡ digits_of before t
+pub all_read : (t : List ℕ) (before : ℕ) → (length t ≡ 0 → ⊥) → length t ≤ 6 → (v : ℕ) → (every is_digit t ≡ true) × (v ≡ with_digits before t) → Some v ≡ digits_of before t
 unfolding digits_of one_to_six
-all_read t before some few v e = rw (le-leb 1 (length t) (omega arith), le-leb (length t) 6 few, e.0) (ap digits.Value e.1)
+all_read t before some few v e = rw (le-leb 1 (length t) (omega arith), le-leb (length t) 6 few, e.0) (ap Some e.1)

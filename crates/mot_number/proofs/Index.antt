@@ -1,15 +1,18 @@
--- Where a byte first stands in a text, what stands before it and behind it, and how a loop finds it. Assumes nothing.
+-- Where a byte first stands in a text, what stands before it and behind it, and that std's `position` finds it. Assumes nothing.
 use mathlib.Core.Path.{◌≡◌, refl, sym, ap, ◌∙◌}
-use mathlib.Core.Bool.{Bool, true, false}
+use mathlib.Core.Bool.{Bool, true, false, not, cond}
 use mathlib.Core.List.{List, [], ◌∷◌, ◌++◌}
 use Prim.Native.Nat.{ℕ, suc, ◌+◌, ◌≤◌, ◌<◌}
-use native.Mathlib.Nat.{not-suc-le-zero, le_of_suc-le-suc, zero-add}
+use native.Mathlib.Nat.{not-suc-le-zero, le_of_suc-le-suc}
 use native.Mathlib.Numerals.{add-one}
 use native.Mathlib.Omega.{arith}
-use lib.Dec.{eqb}
-use lib.ListN.{length, drop, get_or, drop_of_length-le}
-use lib.Seq.{drop-cons}
-use borrow.Author.Tests.{eqb-true, ne_eqb, eq-eqb}
+use lib.Dec.{eqb, ltb}
+use lib.ListN.{length, drop}
+use borrow.Author.Tests.{eqb-true, ltb-false, ne_eqb, eq-eqb}
+use Rattle.std.specs.Prelude.{Option, None, Some, unwrap_or}
+use Rattle.std.specs.List.{position_or_len}
+use Rattle.std.proofs.lemmas.List.Recursion.{is_position_or_len}
+use Rattle.std.proofs.lemmas.List.Sums.{prefix_len-le-length}
 use Rattle.mot_number.specs.Index.{index_of, index_after}
 
 abbrev pub Lacks : ℕ → List ℕ → Type 0
@@ -50,34 +53,24 @@ module _ (x : ℕ) where
   index_at [] h = absurd (not-suc-le-zero h)
   index_at (b ∷ bs) h = after-at (eqb b x) b bs refl (index_at bs) h
 
--- ---- a loop that seeks x in t: it stands nowhere before place i
-pub record Seeking (x : ℕ) (t : List ℕ) (i : ℕ) : Type 0 where
-  pub upto : i ≤ length t
-  pub rest : index_of x t ≡ i + index_of x (drop i t)
+-- ---- what std's `position` finds
 
-pub seek-start : (x : ℕ) (t : List ℕ) → Seeking x t 0
-seek-start x t = record { upto = omega arith; rest = sym (zero-add (index_of x t)) }
+after-cond : (e : Bool) (k : ℕ) → index_after e k ≡ cond e 0 (1 + k)
+unfolding index_after
+after-cond true k = refl
+after-cond false k = let h : suc k ≡ 1 + k = omega arith in h
 
-module _ {x : ℕ} {t : List ℕ} {i : ℕ} (w : Seeking x t i) where
-  module _ (h : i < length t) where
-    cut : index_of x (drop i t) ≡ index_after (eqb (get_or t i 0) x) (index_of x (drop (i + 1) t))
-    unfolding index_of
-    cut = ap (index_of x) (drop-cons t i 0 h ∙ ap (λ (k : ℕ). get_or t i 0 ∷ drop k t) (sym (add-one i)))
+index-position : (x : ℕ) (t : List ℕ) → index_of x t ≡ position_or_len (λ b. eqb b x) t
+unfolding index_of
+index-position x = is_position_or_len (index_of x) (λ b. eqb b x) refl (λ b bs. after-cond (eqb b x) (index_of x bs))
 
-    pub seek-here : get_or t i 0 ≡ x → i ≡ index_of x t
-    unfolding index_after
-    seek-here e = let f : index_of x (drop i t) ≡ 0 = cut ∙ ap (λ (b : Bool). index_after b (index_of x (drop (i + 1) t))) (eq-eqb (get_or t i 0) x e) in let r = w.rest in omega arith
+-- with the length for None
+pub or_length : (q : ℕ → Bool) (t : List ℕ) (r : Option ℕ) → r ≡ cond (ltb (position_or_len q t) (length t)) (Some (position_or_len q t)) None → unwrap_or r (length t) ≡ position_or_len q t
+or_length q t r e = go (ltb (position_or_len q t) (length t)) refl e (prefix_len-le-length (λ b. not (q b)) t)
+  where
+    go : (b : Bool) → ltb (position_or_len q t) (length t) ≡ b → r ≡ cond b (Some (position_or_len q t)) None → position_or_len q t ≤ length t → unwrap_or r (length t) ≡ position_or_len q t
+    go true h f m = rw f
+    go false h f m = let l : length t ≤ position_or_len q t = ltb-false _ _ h in rw f (omega arith)
 
-    pub seek-on : (get_or t i 0 ≡ x → ⊥) → Seeking x t (i + 1)
-    unfolding index_after
-    seek-on e = record {
-      upto = omega arith;
-      rest =
-          let f : index_of x (drop i t) ≡ suc (index_of x (drop (i + 1) t)) = cut ∙ ap (λ (b : Bool). index_after b (index_of x (drop (i + 1) t))) (ne_eqb (get_or t i 0) x e) in
-          let r = w.rest in
-          omega arith;
-    }
-
-  pub seek-none : length t ≤ i → i ≡ index_of x t
-  unfolding index_of
-  seek-none h = let f : index_of x (drop i t) ≡ 0 = ap (index_of x) (drop_of_length-le t h) in let r = w.rest in omega arith
+pub position-index : (x : ℕ) (t : List ℕ) (r : Option ℕ) → r ≡ cond (ltb (position_or_len (λ b. eqb b x) t) (length t)) (Some (position_or_len (λ b. eqb b x) t)) None → unwrap_or r (length t) ≡ index_of x t
+position-index x t r e = or_length (λ b. eqb b x) t r e ∙ sym (index-position x t)

@@ -13,7 +13,18 @@ use borrow.Author.Tests.{leb-true, leb-false, lt-ltb, le-ltb, eqb-true, eqb-fals
 use lib.Ieee.{binary32, size, nearest, units, round}
 use lib.Ieee.Fits.{round_is, nearest-le}
 use lib.Ieee.Nearest.{closest, closest_same, nearest-ge}
+use Rattle.std.specs.Int.{from_bool}
 use Rattle.floats.proofs.Digits.{size_is}
+
+-- ---- a test as a number
+
+pub bool_is : (b : Bool) → from_bool b ≡ cond b 1 0
+bool_is true = refl
+bool_is false = refl
+
+pub one_most : (b : Bool) (r : ℕ) → r ≡ from_bool b → r ≤ 1
+one_most true r e = rw e (omega arith)
+one_most false r e = rw e (omega arith)
 
 -- ---- rounding by the remainder: one more where it is above a half, or is a half and the quotient odd
 module _ (q r u : ℕ) where

@@ -13,29 +13,25 @@ use borrow.Author.Tests.{leb-true, lt-ltb, le-ltb}
 use Rattle.mot_number.specs.Index.{index_of}
 use Rattle.laws.specs.Tests.{and_left, and_right}
 use Rattle.laws.specs.Every.{every}
-use Rattle.mot_number.specs.declared.number.Digits.{Digits}
-use Rattle.mot_number.specs.declared.number.Digits.TheVariants as digits
-use Rattle.mot_number.specs.declared.number.FrameNumber.TheVariants as frame
-use Rattle.mot_number.specs.declared.number.Number.{Number}
-use Rattle.mot_number.specs.declared.number.Number.TheVariants.{Value, Malformed}
+use Rattle.std.specs.Prelude.{Option, None, Some}
 use Rattle.mot_number.specs.Number.{is_digit, one_to_six, whole_of, behind_of, has_point, is_unsigned, is_negative, with_digits, rounded, number_of, frame_number}
 use Rattle.mot_number.specs.Private.{digits_of, unsigned_of}
 use Rattle.mot_number.proofs.Reading.{six_says, bytes_make, digits_in, digits-short}
 
 -- ---- one to six digits
 
-module _ (v : ℕ) (t : List ℕ) (r : Digits) (e : r ≡ digits_of v t) where
-  pub not_six : r ≡ digits.Malformed → one_to_six t ≡ false
+module _ (v : ℕ) (t : List ℕ) (r : Option ℕ) (e : r ≡ digits_of v t) where
+  pub not_six : r ≡ None → one_to_six t ≡ false
   not_six m = go (one_to_six t) refl (unfold digits_of in e)
     where
-      go : (b : Bool) → one_to_six t ≡ b → r ≡ cond b (digits.Value (with_digits v t)) digits.Malformed → one_to_six t ≡ false
+      go : (b : Bool) → one_to_six t ≡ b → r ≡ cond b (Some (with_digits v t)) None → one_to_six t ≡ false
       go true f g = let z : ◌≡◌ {A = ℕ} 0 1 = cc in absurd (omega arith)
       go false f g = f
 
-  pub six : (w : ℕ) → r ≡ digits.Value w → (one_to_six t ≡ true) × (w ≡ with_digits v t)
+  pub six : (w : ℕ) → r ≡ Some w → (one_to_six t ≡ true) × (w ≡ with_digits v t)
   six w m = go (one_to_six t) refl (unfold digits_of in e)
     where
-      go : (b : Bool) → one_to_six t ≡ b → r ≡ cond b (digits.Value (with_digits v t)) digits.Malformed → (one_to_six t ≡ true) × (w ≡ with_digits v t)
+      go : (b : Bool) → one_to_six t ≡ b → r ≡ cond b (Some (with_digits v t)) None → (one_to_six t ≡ true) × (w ≡ with_digits v t)
       go true f g = (f, cc)
       go false f g = let z : ◌≡◌ {A = ℕ} 0 1 = cc in absurd (omega arith)
 
@@ -55,13 +51,13 @@ six_few t e = let h : length t ≤ 6 = leb-true _ _ (and_right (leb 1 (length t)
 
 -- ---- a frame number
 
-pub no-frame : (t : List ℕ) → one_to_six t ≡ false → frame.Malformed ≡ frame_number t
+pub no-frame : (t : List ℕ) → one_to_six t ≡ false → None ≡ frame_number t
 unfolding frame_number
 no-frame t e = rw e
 
-pub a-frame : (t : List ℕ) (v : ℕ) → (one_to_six t ≡ true) × (v ≡ with_digits 0 t) → frame.Value v ≡ frame_number t
+pub a-frame : (t : List ℕ) (v : ℕ) → (one_to_six t ≡ true) × (v ≡ with_digits 0 t) → Some v ≡ frame_number t
 unfolding frame_number
-a-frame t v e = rw e.0 (ap frame.Value e.1)
+a-frame t v e = rw e.0 (ap Some e.1)
 
 -- ---- a number behind its sign
 
@@ -74,12 +70,12 @@ module _ (u : List ℕ) (negative : Bool) (point : ℕ) (point_is : point ≡ in
   whole_part : take point u ≡ whole_of u
   whole_part = ap (λ (k : ℕ). take k u) point_is
 
-  module _ (r : Digits) (e : r ≡ digits_of 0 (take point u)) where
-    pub no_whole : r ≡ digits.Malformed → Malformed ≡ unsigned_of negative u
+  module _ (r : Option ℕ) (e : r ≡ digits_of 0 (take point u)) where
+    pub no_whole : r ≡ None → None ≡ unsigned_of negative u
     unfolding unsigned_of is_unsigned
     no_whole m = let f : one_to_six (whole_of u) ≡ false = ap one_to_six (sym whole_part) ∙ not_six 0 (take point u) r e m in rw f
 
-    module _ (w : ℕ) (m : r ≡ digits.Value w) where
+    module _ (w : ℕ) (m : r ≡ Some w) where
       whole_six : one_to_six (whole_of u) ≡ true
       whole_six = ap one_to_six (sym whole_part) ∙ (six 0 (take point u) r e w m).0
 
@@ -89,14 +85,14 @@ module _ (u : List ℕ) (negative : Bool) (point : ℕ) (point_is : point ≡ in
       pub whole-small : w < 1000000
       whole-small = subst (λ (x : ℕ). x < 1000000) (sym whole_is) (six_small (whole_of u) whole_six)
 
-      pub no_point : point ≡ length u → (v : Float) → v ≡ rounded negative w 0 → Value v ≡ unsigned_of negative u
+      pub no_point : point ≡ length u → (v : Float) → v ≡ rounded negative w 0 → Some v ≡ unsigned_of negative u
       unfolding unsigned_of is_unsigned
       no_point h v f =
           let i = point_is in
           let p : has_point u ≡ false = le-ltb (index_of 46 u) (length u) (omega arith) in
           let b : behind_of u ≡ [] = drop_of_length-le u {i = index_of 46 u + 1} (omega arith) in
           let n : with_digits 0 (whole_of u ++ []) ≡ w = ap (with_digits 0) (append-nil (whole_of u)) ∙ sym whole_is in
-          rw (whole_six, p, b, n) (ap Value f)
+          rw (whole_six, p, b, n) (ap Some f)
 
       -- behind the point
       module _ (h : point ≡ length u → ⊥) (le : point ≤ length u) where
@@ -112,21 +108,21 @@ module _ (u : List ℕ) (negative : Bool) (point : ℕ) (point_is : point ≡ in
             lt_of : (point ≡ length u → ⊥) → index_of 46 u ≤ length u → index_of 46 u < length u
             lt_of g k = let i = point_is in omega (arith, g)
 
-        module _ (s : Digits) (f : s ≡ digits_of w rest) where
-          pub no-behind : s ≡ digits.Malformed → Malformed ≡ unsigned_of negative u
+        module _ (s : Option ℕ) (f : s ≡ digits_of w rest) where
+          pub no-behind : s ≡ None → None ≡ unsigned_of negative u
           unfolding unsigned_of is_unsigned
           no-behind k = let b : one_to_six (behind_of u) ≡ false = ap one_to_six (sym rest-is) ∙ not_six w rest s f k in rw (whole_six, pointed, b)
 
-          module _ (x : ℕ) (g : s ≡ digits.Value x) where
+          module _ (x : ℕ) (g : s ≡ Some x) where
             pub behind-few : length rest < 7
             behind-few = six_few rest (six w rest s f x g).0
 
-            pub both : (v : Float) → v ≡ rounded negative x (length rest) → Value v ≡ unsigned_of negative u
+            pub both : (v : Float) → v ≡ rounded negative x (length rest) → Some v ≡ unsigned_of negative u
             unfolding unsigned_of is_unsigned
             both v k =
                 let b : one_to_six (behind_of u) ≡ true = ap one_to_six (sym rest-is) ∙ (six w rest s f x g).0 in
                 let n : with_digits 0 (whole_of u ++ behind_of u) ≡ x = with_append 0 (whole_of u) (behind_of u) ∙ ap (λ (y : ℕ). with_digits y (behind_of u)) (sym whole_is) ∙ ap (with_digits w) (sym rest-is) ∙ sym (six w rest s f x g).1 in
-                rw (whole_six, pointed, b, n, ← rest-is) (ap Value k)
+                rw (whole_six, pointed, b, n, ← rest-is) (ap Some k)
 
 -- ---- the sign
 
@@ -134,13 +130,13 @@ pub minus-some : (t : List ℕ) (b : Bool) → b ≡ is_negative t → b ≡ tru
 minus-some [] b e f = let z : ◌≡◌ {A = ℕ} 0 1 = cc in absurd (omega arith)
 minus-some (x ∷ xs) b e f = omega arith
 
-pub minus_number : (t : List ℕ) (b : Bool) → b ≡ is_negative t → b ≡ true → (r : Number) → r ≡ unsigned_of true (take (length t - 1) (drop 1 t)) → r ≡ number_of t
+pub minus_number : (t : List ℕ) (b : Bool) → b ≡ is_negative t → b ≡ true → (r : Option Float) → r ≡ unsigned_of true (take (length t - 1) (drop 1 t)) → r ≡ number_of t
 unfolding number_of unsigned_of
 minus_number t b e f r g =
     let n : is_negative t ≡ true = sym e ∙ f in
     let d : take (length t - 1) (drop 1 t) ≡ drop 1 t = take_all (length t - 1) (drop 1 t) (let l = length-drop 1 t in omega arith) in
     g ∙ rw (d, n)
 
-pub plain_number : (t : List ℕ) (b : Bool) → b ≡ is_negative t → b ≡ false → (r : Number) → r ≡ unsigned_of false t → r ≡ number_of t
+pub plain_number : (t : List ℕ) (b : Bool) → b ≡ is_negative t → b ≡ false → (r : Option Float) → r ≡ unsigned_of false t → r ≡ number_of t
 unfolding number_of unsigned_of
 plain_number t b e f r g = let n : is_negative t ≡ false = sym e ∙ f in g ∙ rw n

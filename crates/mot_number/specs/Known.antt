@@ -1,16 +1,14 @@
 -- Texts as they are written, and what the definition makes of them by computation: the bits of the f32, and 7fc00000, a NaN's, where a text is no number.
-use Rattle.std.specs.Prelude.{◌≡◌, refl, List, [], ◌∷◌, map, ℕ}
+use Rattle.std.specs.Prelude.{◌≡◌, refl, List, [], ◌∷◌, map, ℕ, Option, Some, None, Float}
 use Rattle.std.specs.Float.{binary32}
 use Rattle.std.specs.Float.Ieee.{to_bits, round}
 use Rattle.mot_number.specs.Index.{index_of, index_after}
 use Rattle.laws.specs.Every.{every}
-use Rattle.mot_number.specs.declared.number.Number.{Number}
-use Rattle.mot_number.specs.declared.number.Number.TheVariants.{Value, Malformed}
 use Rattle.mot_number.specs.Number.{one_to_six, is_unsigned, with_digits, number_of}
 
-abbrev bits : Number → ℕ
-bits (Value v) = to_bits binary32 v
-bits Malformed = 0x7fc0_0000
+abbrev bits : Option Float → ℕ
+bits (Some v) = to_bits binary32 v
+bits None = 0x7fc0_0000
 
 abbrev read : List (List ℕ) → List ℕ
 read ts = map (λ (t : List ℕ). bits (number_of t)) ts

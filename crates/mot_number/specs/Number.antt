@@ -1,14 +1,10 @@
--- Document 02, N1: "A number has an optional minus, one to six digits, and optionally a point with one to six digits"; "each decimal rounded to the nearest f32, ties to even";
+-- "A number has an optional minus, one to six digits, and optionally a point with one to six digits"; "each decimal rounded to the nearest f32, ties to even";
 -- "the frame is one to six digits alone. A minus before zero gives minus zero". A text is a list of bytes.
-use Rattle.std.specs.Prelude.{Bool, not, cond, ◌&&◌, ◌||◌, List, [], ◌∷◌, ◌++◌, ℕ, ◌+◌, ◌-◌, ◌*◌, ◌^◌, eqb, leb, ltb, length, take, drop, get_or, Float}
+use Rattle.std.specs.Prelude.{Bool, not, cond, ◌&&◌, ◌||◌, List, [], ◌∷◌, ◌++◌, ℕ, ◌+◌, ◌-◌, ◌*◌, ◌^◌, eqb, leb, ltb, length, take, drop, get_or, Option, Some, None, Float}
 use Rattle.std.specs.Float.{binary32}
 use Rattle.std.specs.Float.Ieee.{round}
 use Rattle.mot_number.specs.Index.{index_of}
 use Rattle.laws.specs.Every.{every}
-use Rattle.mot_number.specs.declared.number.FrameNumber.{FrameNumber}
-use Rattle.mot_number.specs.declared.number.FrameNumber.TheVariants as frame
-use Rattle.mot_number.specs.declared.number.Number.{Number}
-use Rattle.mot_number.specs.declared.number.Number.TheVariants.{Value, Malformed}
 
 -- ---- the form
 
@@ -66,8 +62,8 @@ rounded negative m k = round binary32 negative m (10 ^ k)
 abbrev pub f32_of : Decimal → Float
 f32_of d = rounded d.negative d.m d.k
 
-unfoldable pub number_of : List ℕ → Number
-number_of t = cond (is_number t) (Value (f32_of (decimal_of t))) Malformed
+unfoldable pub number_of : List ℕ → Option Float
+number_of t = cond (is_number t) (Some (f32_of (decimal_of t))) None
 
 -- ---- the frame
 
@@ -77,5 +73,5 @@ is_frame t = one_to_six t
 abbrev pub frame_of : List ℕ → ℕ
 frame_of t = with_digits 0 t
 
-unfoldable pub frame_number : List ℕ → FrameNumber
-frame_number t = cond (is_frame t) (frame.Value (frame_of t)) frame.Malformed
+unfoldable pub frame_number : List ℕ → Option ℕ
+frame_number t = cond (is_frame t) (Some (frame_of t)) None

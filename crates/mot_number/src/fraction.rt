@@ -1,5 +1,5 @@
 // A fraction of whole numbers to the nearest f32, ties to even.
-ghost use Rattle.std.specs.Prelude.{◌≡◌, false, cond, ◌≤◌, ◌<◌, ◌^◌, leb, ltb};
+ghost use Rattle.std.specs.Prelude.{◌≡◌, false, ◌≤◌, ◌<◌, ◌^◌};
 ghost use Rattle.std.specs.Float.{binary32};
 ghost use Rattle.std.specs.Float.Ieee.{units, round};
 ghost use Rattle.std.specs.Float.Ieee.Nearest.{closest};
@@ -17,24 +17,9 @@ pub(crate) fn magnitude(num: u64, den: u64) -> f32
     let zeros = u64::leading_zeros(num);
     let spare = u64::leading_zeros(den);
     let top = num << zeros;
-    let more = at_least(top, den << spare);
+    let more = u32::from(den << spare <= top);
     let unit = den << (spare - 24 + more);
     packed(nearest(top, unit), 125 + spare + more - zeros)
-}
-
-// 1 where a is at least b, and 0 elsewhere.
-fn at_least(a: u64, b: u64) -> u32
-    ensures { result ≡ cond (leb b a) 1 0 }
-{
-    if b <= a { 1 } else { 0 }
-}
-
-// 1 where a is above b, and 0 elsewhere.
-fn above(a: u64, b: u64) -> u64
-    ensures fact_1 { result ≡ cond (ltb b a) 1 0 }
-    ensures fact_2 { result ≤ 1 }
-{
-    if b < a { 1 } else { 0 }
 }
 
 // n / unit to the nearest whole number, a tie to the even one: the remainder is above a half, or is a half and the quotient odd.
@@ -44,7 +29,7 @@ fn nearest(n: u64, unit: u64) -> u64
     ensures { result ≡ closest n unit }
 {
     let kept = n / unit;
-    kept + above(2 * (n % unit) + kept % 2, unit)
+    kept + u64::from(unit < 2 * (n % unit) + kept % 2)
 }
 
 // `kept` * 2 ^ `dropped` units of 2^-149, the smallest f32. A `kept` of 2^24 carries into the exponent's field by itself.

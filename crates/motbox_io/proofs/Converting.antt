@@ -7,12 +7,11 @@ use native.Mathlib.Omega.{arith}
 use lib.ListN.{length, drop, length-replicate, drop_of_length-le}
 use lib.Dec.{ltb}
 use borrow.Author.Tests.{le-ltb}
+use Rattle.std.proofs.Common.{Result, Ok, Err}
 use Rattle.laws.specs.Splice.{splice}
 use Rattle.records.specs.declared.box_record.BoxRecord.{BoxRecord}
 use Rattle.records.specs.BoxRecord.{box_bytes, bytes_of_box}
 use Rattle.records.proofs.Laws.Lengths.{length-box}
-use Rattle.mot_line.specs.declared.call.Answer.{Answer}
-use Rattle.mot_line.specs.declared.call.Answer.TheVariants.{Read, Refused}
 use Rattle.mot_line.specs.declared.call.Refusal.{Refusal}
 use Rattle.mot_line.specs.declared.call.Refusal.TheVariants.{NotOfTheForm, BadValue}
 use Rattle.mot_line.specs.Line.{is_detection, box_read}
@@ -23,17 +22,17 @@ use Rattle.motbox_io.specs.Text.{converting, behind, later, on_answer, blank, co
 -- ---- what a line adds
 
 module _ (previous lines : ℕ) (l : List ℕ) (ls : List (List ℕ)) where
-  pub line_adds : (frame : ℕ) → (mot_line l previous blank).answer ≡ Read frame → converted previous lines (l ∷ ls) ≡ behind (mot_line l previous blank).out (converted frame (later lines) ls)
+  pub line_adds : (frame : ℕ) → (mot_line l previous blank).answer ≡ Ok frame → converted previous lines (l ∷ ls) ≡ behind (mot_line l previous blank).out (converted frame (later lines) ls)
   unfolding converted
-  line_adds frame e = ap (λ (a : Answer). on_answer a (mot_line l previous blank).out lines (λ frame. converted frame (later lines) ls)) e
+  line_adds frame e = ap (λ (a : Result ℕ Refusal). on_answer a (mot_line l previous blank).out lines (λ frame. converted frame (later lines) ls)) e
 
-  pub line-ends : (why : Refusal) → (mot_line l previous blank).answer ≡ Refused why → converted previous lines (l ∷ ls) ≡ converting [] (number why) (later lines)
+  pub line-ends : (why : Refusal) → (mot_line l previous blank).answer ≡ Err why → converted previous lines (l ∷ ls) ≡ converting [] (number why) (later lines)
   unfolding converted
-  line-ends why e = ap (λ (a : Answer). on_answer a (mot_line l previous blank).out lines (λ frame. converted frame (later lines) ls)) e
+  line-ends why e = ap (λ (a : Result ℕ Refusal). on_answer a (mot_line l previous blank).out lines (λ frame. converted frame (later lines) ls)) e
 
 -- ---- a record
 
-pub refused_not_read : (why : Refusal) (frame : ℕ) → Refused why ≡ Read frame → ⊥
+pub refused_not_read : (why : Refusal) (frame : ℕ) → Err why ≡ Ok frame → ⊥
 refused_not_read why frame e = let z : ◌≡◌ {A = ℕ} 0 1 = cc in omega arith
 
 -- written over as many bytes
@@ -54,7 +53,7 @@ module _ (l : List ℕ) (previous : ℕ) where
   blank-is = room-is blank (omega (arith, length-replicate {A = ℕ} box_bytes 0))
 
   module _ (out : List ℕ) where
-    pub no_form : is_detection l ≡ false → (mot_line l previous out).answer ≡ Refused NotOfTheForm
+    pub no_form : is_detection l ≡ false → (mot_line l previous out).answer ≡ Err NotOfTheForm
     no_form e = ap (λ (c : Outcome). c.answer) (call-is l previous out) ∙ ap (λ (f : Bool). (by_tests f (bad_value previous (box_read l)) (ltb (length out) box_bytes) (box_read l) out).answer) e
 
     module _ (room : box_bytes ≤ length out) where
@@ -67,13 +66,13 @@ module _ (l : List ℕ) (previous : ℕ) where
           go true false = refl
 
       -- a line that is read: its record, and the bytes behind it as they were
-      pub read-leaves : (frame : ℕ) → (mot_line l previous out).answer ≡ Read frame
+      pub read-leaves : (frame : ℕ) → (mot_line l previous out).answer ≡ Ok frame
           → ((mot_line l previous out).out ≡ (mot_line l previous blank).out ++ drop box_bytes out) × (length (mot_line l previous blank).out ≡ box_bytes)
       read-leaves frame e =
           let r = go (is_detection l) (bad_value previous (box_read l)) (sym (ap (λ (c : Outcome). c.answer) (room-is out room)) ∙ e) in
           (ap (λ (c : Outcome). c.out) (room-is out room) ∙ r.0 ∙ sym (ap (λ (c : Outcome). c.out ++ drop box_bytes out) blank-is), ap (λ (c : Outcome). length c.out) blank-is ∙ r.1)
         where
-          go : (f v : Bool) → (roomy f v out).answer ≡ Read frame → ((roomy f v out).out ≡ (roomy f v blank).out ++ drop box_bytes out) × (length (roomy f v blank).out ≡ box_bytes)
+          go : (f v : Bool) → (roomy f v out).answer ≡ Ok frame → ((roomy f v out).out ≡ (roomy f v blank).out ++ drop box_bytes out) × (length (roomy f v blank).out ≡ box_bytes)
           go false v g = absurd (refused_not_read NotOfTheForm frame g)
           go true true g = absurd (refused_not_read BadValue frame g)
           go true false g = (

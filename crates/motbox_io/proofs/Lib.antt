@@ -1,7 +1,5 @@
 -- Theorem proves what specs/Printed.antt states: Steps and Taking have the steps of a turn, FirstLine the lines of a text and Converting what one adds to the records. Buffers has what the functions
--- of lines do, ProgressLaws where a run stands after a step, and TurnLaws the returns of a turn's functions. Along is what holds after the turns of a run.
 pub mod Buffers
-pub mod ProgressLaws
 pub mod TurnLaws
 pub mod FirstLine
 pub mod Converting

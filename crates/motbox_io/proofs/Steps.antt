@@ -8,11 +8,10 @@ use lib.Dec.{eqb, leb}
 use lib.ListN.{length, take, drop, length-drop}
 use lib.Seq.{take-add, length-take-le}
 use borrow.Author.Tests.{leb-true, ltb-false, eqb-true, not-false}
+use Rattle.std.proofs.Common.{Option, Some, None}
 use Rattle.laws.specs.Tests.{and_left, and_right, true_not_false, false_not_true}
 use Rattle.records.specs.BoxRecord.{box_bytes}
 use Rattle.mot_line.specs.Detection.{longest_line}
-use Rattle.program_io.specs.declared.calls.Input.{Input}
-use Rattle.program_io.specs.declared.calls.Input.TheVariants.{Bytes, Failed}
 use Rattle.program_io.specs.Input.{Within}
 use Rattle.motbox_io.specs.declared.progress.Progress.{Progress}
 use Rattle.motbox_io.specs.Text.{Converted, has_line, lines_of, behind, converted, motbox}
@@ -74,9 +73,9 @@ module _ (read written : List ℕ) (p : Progress) (before after out : List ℕ) 
   kept = p.got - p.next
 
   module _ (g : p.going ≡ true) (more : p.more ≡ true) (moved : take kept after ≡ held p before) where
-    along_refilled : (input : Input) → Within (length before - kept) input → Along (read ++ read_in input (drop kept after)) written (refilled p kept (length before) input) after out
-    along_refilled Failed w = read-no-more (along_stopped read written p before after out g a)
-    along_refilled (Bytes n) w =
+    along_refilled : (input : Option ℕ) → Within (length before - kept) input → Along (read ++ read_in input (drop kept after)) written (refilled p kept (length before) input) after out
+    along_refilled None w = read-no-more (along_stopped read written p before after out g a)
+    along_refilled (Some n) w =
         let brought = take n (drop kept after) in
         let all : min (kept + n) (length before) - 0 ≡ kept + n = omega (arith, w, s.got) in
         record {
@@ -124,10 +123,10 @@ module _ (p : Progress) (before after : List ℕ) (size : length after ≡ lengt
   is-dry = dry p (length before) (has_line (held p before))
 
   -- of a read that did not fail
-  refilled-settled : (q : Progress) (kept : ℕ) (input : Input) → (refilled q kept (length before) input).going ≡ true → Settled (refilled q kept (length before) input) after
-  refilled-settled q kept Failed g = absurd (false_not_true g)
-  refilled-settled q kept (Bytes n) g = λ more none.
-      let r = refilled q kept (length before) (Bytes n) in
+  refilled-settled : (q : Progress) (kept : ℕ) (input : Option ℕ) → (refilled q kept (length before) input).going ≡ true → Settled (refilled q kept (length before) input) after
+  refilled-settled q kept None g = absurd (false_not_true g)
+  refilled-settled q kept (Some n) g = λ more none.
+      let r = refilled q kept (length before) (Some n) in
       let full = leb-true (length before) (min (kept + n) (length before)) more in
       let long : length (held r after) ≡ r.got - r.next = held-long r after (record { next = omega arith; got = omega (arith, size) }) in
       omega (arith, long, full, big)
@@ -179,9 +178,9 @@ module _ (p : Progress) (out : List ℕ) (h : box_bytes ≤ length out) (u : p.u
 pub fills-room : (p r : Progress) (dry : Bool) (before after out : List ℕ) → Fills p dry r before after → Room p out → Room r out
 fills-room p r dry before after out f room = subst (λ (x : Progress). Room x out) (sym f.so) (by_due (p.going && dry))
   where
-    by_input : (input : Input) → Room (refilled p (p.got - p.next) (length before) input) out
-    by_input (Bytes n) = room
-    by_input Failed = λ g. absurd (false_not_true g)
+    by_input : (input : Option ℕ) → Room (refilled p (p.got - p.next) (length before) input) out
+    by_input (Some n) = room
+    by_input None = λ g. absurd (false_not_true g)
 
     by_due : (b : Bool) → Room (cond b (refilled p (p.got - p.next) (length before) f.input) p) out
     by_due true = by_input f.input

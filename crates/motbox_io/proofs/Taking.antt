@@ -10,11 +10,10 @@ use lib.Dec.{eqb}
 use lib.ListN.{length, take, drop, length-append, length-drop, take-append-drop}
 use lib.Seq.{take-length, take_at, take-nil, length-take-le, drop-drop}
 use borrow.Author.Tests.{eqb-true, eqb-false}
+use Rattle.std.proofs.Common.{Result, Ok, Err}
 use Rattle.mot_number.specs.Index.{index_of}
 use Rattle.laws.specs.Tests.{true_not_false, false_not_true}
 use Rattle.records.specs.BoxRecord.{box_bytes}
-use Rattle.mot_line.specs.declared.call.Answer.{Answer}
-use Rattle.mot_line.specs.declared.call.Answer.TheVariants.{Read, Refused}
 use Rattle.mot_line.specs.declared.call.Refusal.{Refusal}
 use Rattle.mot_line.specs.declared.call.Refusal.TheVariants.{NotOfTheForm, BadValue, NoRoom}
 use Rattle.mot_line.specs.Line.{is_detection}
@@ -103,7 +102,7 @@ module _ (read written : List ℕ) (p : Progress) (input out : List ℕ) (s : St
 
   along_refused : (why : Refusal) (out' : List ℕ) → waiting p out' ≡ waiting p out
       → ((tail : List ℕ) → Onward p tail → converted p.previous p.lines (lines_of (t ++ tail)) ≡ converting [] (number why) (later p.lines))
-      → Along read written (answered p n (length out) (Refused why)) input out'
+      → Along read written (answered p n (length out) (Err why)) input out'
   along_refused why out' same ends = record {
     rest = a.rest;
     is_held = λ e. absurd (false_not_true e);
@@ -137,7 +136,7 @@ module _ (read written : List ℕ) (p : Progress) (input out : List ℕ) (s : St
       drop_of_take n (p.got - p.next) (drop p.next input) ∙ ap (take (p.got - p.next - n)) (drop-drop n p.next input ∙ ap (λ (j : ℕ). drop j input) (sym i))
       ∙ ap (λ (j : ℕ). take j (drop (min (p.next + n) p.got) input)) k
 
-  module _ (frame : ℕ) (e : call.answer ≡ Read frame) where
+  module _ (frame : ℕ) (e : call.answer ≡ Ok frame) where
     -- what waits then
     waits : take (min (p.used + box_bytes) (length out)) (take p.used out ++ call.out) ≡ waiting p out ++ added
     waits =
@@ -152,7 +151,7 @@ module _ (read written : List ℕ) (p : Progress) (input out : List ℕ) (s : St
     said-then : said ++ added ≡ written ++ take (min (p.used + box_bytes) (length out)) (take p.used out ++ call.out)
     said-then = append_assoc written (waiting p out) added ∙ ap (λ (x : List ℕ). written ++ x) (sym waits)
 
-    along_read : has_line t ≡ true → Along read written (answered p n (length out) (Read frame)) input (take p.used out ++ call.out)
+    along_read : has_line t ≡ true → Along read written (answered p n (length out) (Ok frame)) input (take p.used out ++ call.out)
     along_read whole = record {
       rest = drop n t;
       is_held = λ _. left-held;
@@ -174,7 +173,7 @@ module _ (read written : List ℕ) (p : Progress) (input out : List ℕ) (s : St
   no-feed : has_line t ≡ false → is_detection l ≡ false
   no-feed none = ap is_detection (all_held none) ∙ no-feed-refused t none
 
-  ends : (n ≡ 0 → ⊥) → (why : Refusal) → call.answer ≡ Refused why → (tail : List ℕ) → Onward p tail → converted p.previous p.lines (lines_of (t ++ tail)) ≡ converting [] (number why) (later p.lines)
+  ends : (n ≡ 0 → ⊥) → (why : Refusal) → call.answer ≡ Err why → (tail : List ℕ) → Onward p tail → converted p.previous p.lines (lines_of (t ++ tail)) ≡ converting [] (number why) (later p.lines)
   ends some why e tail o = go (has_line t) refl
     where
       which : (b : Bool) → p.more ≡ b → has_line t ≡ false → (tail ≡ []) ⊎ (longest_line < length t)
@@ -187,17 +186,17 @@ module _ (read written : List ℕ) (p : Progress) (input out : List ℕ) (s : St
           ∙ line-ends p.previous p.lines l (lines_of (drop n t ++ tail)) why (same_answer l p.previous (drop p.used out) has_room ∙ e)
       go false none =
           let first = no_line t tail none (omega (arith, some, line-within t, ap (λ (b : Bool). cond b (index_of 10 t + 1) (length t)) none)) (which p.more refl none) in
-          let same : Refused NotOfTheForm ≡ Refused why = sym (no_form l p.previous (drop p.used out) (no-feed none)) ∙ e in
+          let same : Err NotOfTheForm ≡ Err why = sym (no_form l p.previous (drop p.used out) (no-feed none)) ∙ e in
           ap (converted p.previous p.lines) first.is ∙ line-ends p.previous p.lines first.line first.others NotOfTheForm (no_form first.line p.previous blank first.refused)
           ∙ ap (λ (k : ℕ). converting [] k (later p.lines)) (ap refusal_number same)
 
-  along_answered : (n ≡ 0 → ⊥) → (answer : Answer) → call.answer ≡ answer → Along read written (answered p n (length out) answer) input (take p.used out ++ call.out)
-  along_answered some (Read frame) e = go (has_line t) refl
+  along_answered : (n ≡ 0 → ⊥) → (answer : Result ℕ Refusal) → call.answer ≡ answer → Along read written (answered p n (length out) answer) input (take p.used out ++ call.out)
+  along_answered some (Ok frame) e = go (has_line t) refl
     where
-      go : (b : Bool) → has_line t ≡ b → Along read written (answered p n (length out) (Read frame)) input (take p.used out ++ call.out)
+      go : (b : Bool) → has_line t ≡ b → Along read written (answered p n (length out) (Ok frame)) input (take p.used out ++ call.out)
       go true whole = along_read frame e whole
       go false none = absurd (refused_not_read NotOfTheForm frame (sym (no_form l p.previous (drop p.used out) (no-feed none)) ∙ e))
-  along_answered some (Refused why) e =
+  along_answered some (Err why) e =
       along_refused why (take p.used out ++ call.out) (take_at (take p.used out) call.out p.used (length-take-le p.used out (omega (arith, room g)))) (ends some why e)
 
 -- ---- the step

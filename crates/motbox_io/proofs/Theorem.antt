@@ -68,31 +68,27 @@ pub running : {n : ℕ} {read written : List ℕ} {p : Progress} {input out : Li
 running (begun input out big room) = record { big = big; room = room; stands = record { next = omega arith; got = omega arith }; used = omega arith; along = start_along input out }
 running (turned run g size long t) = runs_on _ _ _ _ _ _ _ _ size long g (running run) t
 
--- what holds between two turns of the loop, of which so many are left
-pub record Looping (turns : ℕ) (p : Progress) (input out : List ℕ) : Type 0 where
+-- what holds between two turns of the loop, of which so many are made
+pub record Looping (made : ℕ) (p : Progress) (input out : List ℕ) : Type 0 where
   pub input_size : length input ≡ input_bytes
   pub out_size : length out ≡ output_bytes
-  pub made : ℕ
-  pub count : made + turns ≡ most_turns
   pub read : List ℕ
   pub written : List ℕ
   pub run : Run made read written p input out
 
-pub loops_on : (turns : ℕ) (p r : Progress) (before after out out' : List ℕ) → length after ≡ length before → length out' ≡ length out → (ltb 0 turns && p.going) ≡ true → Looping turns p before out
-    → Turned p r before after out out' → Looping (turns - 1) r after out'
-loops_on turns p r before after out out' size long test l t = record {
+pub loops_on : (made : ℕ) (p r : Progress) (before after out out' : List ℕ) → length after ≡ length before → length out' ≡ length out → p.going ≡ true → Looping made p before out
+    → Turned p r before after out out' → Looping (made + 1) r after out'
+loops_on made p r before after out out' size long on l t = record {
   input_size = size ∙ l.input_size;
   out_size = long ∙ l.out_size;
-  made = l.made + 1;
-  count = omega (arith, l.count, turns-left turns p.going test);
   read = l.read ++ brought_by t;
   written = l.written ++ written_by t;
-  run = turned l.run (goes_on turns p.going test) size long t;
+  run = turned l.run on size long t;
 }
 
-pub loop_ends : (turns : ℕ) (p r : Progress) (input out : List ℕ) → (ltb 0 turns && p.going) ≡ false → Looping turns p input out → Empties p (not p.failed) r → Ran r
-loop_ends turns p r input out test l e = record {
-  turns = l.made;
+pub loop_ends : (made : ℕ) (p r : Progress) (input out : List ℕ) → (p.going ≡ false) ⊎ (made ≡ most_turns) → Looping made p input out → Empties p (not p.failed) r → Ran r
+loop_ends made p r input out over l e = record {
+  turns = made;
   read = l.read;
   written = l.written;
   last = p;
@@ -101,13 +97,9 @@ loop_ends turns p r input out test l e = record {
   input_size = l.input_size;
   out_size = l.out_size;
   run = l.run;
-  ended = go (ltb 0 turns) refl;
+  ended = over;
   empties = e;
 }
-  where
-    go : (b : Bool) → ltb 0 turns ≡ b → (p.going ≡ false) ⊎ (l.made ≡ most_turns)
-    go true h = inl (sym (ap (λ (b : Bool). b && p.going) h) ∙ test)
-    go false h = inr (omega (arith, l.count, ltb-false 0 turns h))
 
 -- ---- what was written
 

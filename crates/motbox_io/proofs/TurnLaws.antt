@@ -9,14 +9,12 @@ use lib.ListN.{length, take, drop, length-drop}
 use lib.Seq.{take_at, length-take-le}
 use borrow.Author.Tests.{ltb-true, eq-eqb, ne_eqb}
 use borrow.Rule.Slice.PartMut.{mid_of, put_mid, take_put}
+use Rattle.std.proofs.Common.{Option, Some, None, Result, Ok, Err}
 use Rattle.mot_number.specs.Index.{index_of}
 use Rattle.laws.specs.Tests.{true_not_false}
 use Rattle.laws.specs.Over.{tail-part, tail-put}
-use Rattle.mot_line.specs.declared.call.Answer.{Answer}
-use Rattle.mot_line.specs.declared.call.Answer.TheVariants.{Read, Refused}
+use Rattle.mot_line.specs.declared.call.Refusal.{Refusal}
 use Rattle.mot_line.specs.Call.{Outcome, outcome, mot_line}
-use Rattle.program_io.specs.declared.calls.Input.{Input}
-use Rattle.program_io.specs.declared.calls.Input.TheVariants.{Bytes, Failed}
 use Rattle.program_io.specs.Input.{Within}
 use Rattle.motbox_io.specs.declared.progress.Progress.{Progress}
 use Rattle.motbox_io.specs.Text.{has_line, line_length}
@@ -35,9 +33,9 @@ was_due p due written on q = record { written = written; so = q ∙ ap (λ (b : 
 pub not_filled : (p : Progress) (dry : Bool) (before : List ℕ) → (p.going && dry) ≡ false → Fills p dry p before before
 not_filled p dry before off =
     record {
-      input = Failed;
+      input = None;
       within = λ _. tt;
-      so = ap (λ (b : Bool). cond b (refilled p (p.got - p.next) (length before) Failed) p) (sym off);
+      so = ap (λ (b : Bool). cond b (refilled p (p.got - p.next) (length before) None) p) (sym off);
       moved = λ on. absurd (true_not_false (sym on ∙ off));
       same = λ _. refl;
     }
@@ -47,7 +45,7 @@ module _ (p : Progress) (dry : Bool) (before : List ℕ) (s : Stands p (length b
   kept = p.got - p.next
 
   -- shifted is the buffer with what is left at its front, and brought what the read left behind that
-  pub was_filled : (shifted brought : List ℕ) (input : Input) {r : Progress} → length shifted ≡ length before → shifted ≡ held p before ++ drop kept before
+  pub was_filled : (shifted brought : List ℕ) (input : Option ℕ) {r : Progress} → length shifted ≡ length before → shifted ≡ held p before ++ drop kept before
       → Within (length (mid_of kept (length shifted - kept) shifted)) input → r ≡ refilled p kept (length shifted) input → Fills p dry r before (put_mid kept (length shifted - kept) shifted brought)
   was_filled shifted brought input size front within q =
       let room : length (mid_of kept (length shifted - kept) shifted) ≡ length before - kept = ap length (tail-part shifted kept) ∙ length-drop kept shifted ∙ ap (λ (n : ℕ). n - kept) size in
@@ -82,7 +80,7 @@ module _ (p : Progress) (input out : List ℕ) where
     unfolding taken
     none_left z q = let e : eqb (line_length (held p input)) 0 ≡ true = eq-eqb _ 0 (sym is ∙ z) in rw (h, e, q)
 
-    pub one-taken : {r : Progress} (a : Answer) (text : List ℕ) → (n ≡ 0 → ⊥) → outcome a text ≡ mot_line (take n (held p input)) p.previous (mid_of p.used (length out - p.used) out)
+    pub one-taken : {r : Progress} (a : Result ℕ Refusal) (text : List ℕ) → (n ≡ 0 → ⊥) → outcome a text ≡ mot_line (take n (held p input)) p.previous (mid_of p.used (length out - p.used) out)
         → r ≡ answered p n (length out) a → leaving r (put_mid p.used (length out - p.used) out text) ≡ taken p input out
     unfolding taken
     one-taken {r} a text some call q =
@@ -106,9 +104,9 @@ module _ (size : ℕ) where
       by_due true = stands-emptied p e.written s
       by_due false = s
 
-  stands-refilled : (p : Progress) (kept n : ℕ) (i : Input) → n ≡ size → Stands p size → Stands (refilled p kept n i) size
-  stands-refilled p kept n (Bytes k) e s = record { next = omega arith; got = omega (arith, e) }
-  stands-refilled p kept n Failed e s = record { next = s.next; got = s.got }
+  stands-refilled : (p : Progress) (kept n : ℕ) (i : Option ℕ) → n ≡ size → Stands p size → Stands (refilled p kept n i) size
+  stands-refilled p kept n (Some k) e s = record { next = omega arith; got = omega (arith, e) }
+  stands-refilled p kept n None e s = record { next = s.next; got = s.got }
 
   pub stands-fills : (p r : Progress) (dry : Bool) (before after : List ℕ) → length before ≡ size → Stands p size → Fills p dry r before after → Stands r size
   stands-fills p r dry before after z s e = subst (λ (x : Progress). Stands x size) (sym e.so) (by_due (p.going && dry))
@@ -117,9 +115,9 @@ module _ (size : ℕ) where
       by_due true = stands-refilled p (p.got - p.next) (length before) e.input z s
       by_due false = s
 
-  stands-answered : (p : Progress) (n room : ℕ) (a : Answer) → Stands p size → Stands (answered p n room a) size
-  stands-answered p n room (Read frame) s = record { next = omega arith; got = s.got }
-  stands-answered p n room (Refused why) s = record { next = s.next; got = s.got }
+  stands-answered : (p : Progress) (n room : ℕ) (a : Result ℕ Refusal) → Stands p size → Stands (answered p n room a) size
+  stands-answered p n room (Ok frame) s = record { next = omega arith; got = s.got }
+  stands-answered p n room (Err why) s = record { next = s.next; got = s.got }
 
   stands-taken : (p : Progress) (input out : List ℕ) → Stands p size → Stands (taken p input out).progress size
   unfolding taken
@@ -146,9 +144,9 @@ used-empties p r n due h e = subst (λ (x : Progress). x.used ≤ n) (sym e.so) 
     by_due true = used-emptied p n e.written h
     by_due false = h
 
-used-refilled : (p : Progress) (kept n : ℕ) (i : Input) → (refilled p kept n i).used ≡ p.used
-used-refilled p kept n (Bytes k) = refl
-used-refilled p kept n Failed = refl
+used-refilled : (p : Progress) (kept n : ℕ) (i : Option ℕ) → (refilled p kept n i).used ≡ p.used
+used-refilled p kept n (Some k) = refl
+used-refilled p kept n None = refl
 
 pub used-fills : (p r : Progress) (n : ℕ) (dry : Bool) (before after : List ℕ) → p.used ≤ n → Fills p dry r before after → r.used ≤ n
 used-fills p r n dry before after h e = subst (λ (k : ℕ). k ≤ n) (sym (ap (λ (x : Progress). x.used) e.so ∙ by_due (p.going && dry))) h
@@ -157,9 +155,9 @@ used-fills p r n dry before after h e = subst (λ (k : ℕ). k ≤ n) (sym (ap (
     by_due true = used-refilled p (p.got - p.next) (length before) e.input
     by_due false = refl
 
-used-answered : (p : Progress) (n size : ℕ) (a : Answer) → p.used ≤ size → (answered p n size a).used ≤ size
-used-answered p n size (Read frame) h = omega arith
-used-answered p n size (Refused why) h = h
+used-answered : (p : Progress) (n size : ℕ) (a : Result ℕ Refusal) → p.used ≤ size → (answered p n size a).used ≤ size
+used-answered p n size (Ok frame) h = omega arith
+used-answered p n size (Err why) h = h
 
 used-taken : (p : Progress) (input out : List ℕ) → p.used ≤ length out → (taken p input out).progress.used ≤ length out
 unfolding taken

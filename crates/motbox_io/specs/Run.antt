@@ -1,10 +1,8 @@
 -- A run: turns one after the other, and at the end what still waits is written out. What its reads brought and what its writes wrote are added up over its turns.
 -- The bytes that C read and wrote are in no contract: a read is taken to have brought what the buffer has behind the bytes that were kept, and writes that succeeded to have written what waited.
-use Rattle.std.specs.Prelude.{◌≡◌, Bool, true, false, not, cond, ◌&&◌, List, [], ◌++◌, ◌⊎◌, ℕ, ◌+◌, ◌-◌, ◌≤◌, ◌<◌, length, take, drop}
+use Rattle.std.specs.Prelude.{◌≡◌, Bool, true, false, not, cond, ◌&&◌, List, [], ◌++◌, ◌⊎◌, ℕ, ◌+◌, ◌-◌, ◌≤◌, ◌<◌, length, take, drop, Option, Some, None}
 use Rattle.records.specs.BoxRecord.{box_bytes}
 use Rattle.mot_line.specs.Detection.{longest_line}
-use Rattle.program_io.specs.declared.calls.Input.{Input}
-use Rattle.program_io.specs.declared.calls.Input.TheVariants.{Bytes, Failed}
 use Rattle.motbox_io.specs.declared.progress.Progress.{Progress}
 use Rattle.motbox_io.specs.Turn.{input_bytes, output_bytes, start, is_dry, is_due, Empties, Turned}
 
@@ -19,11 +17,11 @@ abbrev pub written_out : Progress → List ℕ → Bool → Bool → List ℕ
 written_out p out due written = cond (due && written) (waiting p out) []
 
 -- what a read left behind the bytes that were kept
-abbrev pub read_in : Input → List ℕ → List ℕ
-read_in (Bytes n) room = take n room
-read_in Failed room = []
+abbrev pub read_in : Option ℕ → List ℕ → List ℕ
+read_in (Some n) room = take n room
+read_in None room = []
 
-abbrev pub brought_in : Progress → Bool → Input → List ℕ → List ℕ
+abbrev pub brought_in : Progress → Bool → Option ℕ → List ℕ → List ℕ
 brought_in p dry input after = cond (p.going && dry) (read_in input (drop (p.got - p.next) after)) []
 
 abbrev pub written_by : {p r : Progress} {before after out out' : List ℕ} → Turned p r before after out out' → List ℕ

@@ -1,10 +1,9 @@
 -- What `motbox` makes of its input: document 02, N1, line by line. A line that is turned away ends it, with the refusal's number and the line's, counted from 1.
-use Rattle.std.specs.Prelude.{Bool, cond, List, [], ◌∷◌, ◌++◌, ℕ, ◌+◌, min, eqb, ltb, length, replicate}
+use Rattle.std.specs.Prelude.{Bool, cond, List, [], ◌∷◌, ◌++◌, ℕ, ◌+◌, min, eqb, ltb, length, replicate, Result, Ok, Err}
 use Rattle.mot_number.specs.Index.{index_of}
 use Rattle.records.specs.BoxRecord.{box_bytes}
 use Rattle.mot_fields.specs.Fields.{onto_first}
-use Rattle.mot_line.specs.declared.call.Answer.{Answer}
-use Rattle.mot_line.specs.declared.call.Answer.TheVariants.{Read, Refused}
+use Rattle.mot_line.specs.declared.call.Refusal.{Refusal}
 use Rattle.mot_line.specs.Call.{number, mot_line}
 
 -- ---- lines
@@ -42,9 +41,9 @@ abbrev pub later : ℕ → ℕ
 later n = min n 18446744073709551614 + 1
 
 -- `out` is the line's record, which mot_line wrote over `blank`; `rest` is what the lines behind it give, by its frame
-abbrev pub on_answer : Answer → List ℕ → ℕ → (ℕ → Converted) → Converted
-on_answer (Read frame) out lines rest = behind out (rest frame)
-on_answer (Refused why) out lines rest = converting [] (number why) (later lines)
+abbrev pub on_answer : Result ℕ Refusal → List ℕ → ℕ → (ℕ → Converted) → Converted
+on_answer (Ok frame) out lines rest = behind out (rest frame)
+on_answer (Err why) out lines rest = converting [] (number why) (later lines)
 
 abbrev pub blank : List ℕ
 blank = replicate box_bytes 0

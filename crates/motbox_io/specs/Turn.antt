@@ -1,12 +1,9 @@
 -- One turn of the loop: what waits is written out where there is no room for another record or the input is read on; the buffer is filled once the next line is not whole in it; the next line is taken.
 -- Whether a write failed and what a read brought are C's: each contract names them, and says what follows.
-use Rattle.std.specs.Prelude.{◌≡◌, Bool, true, false, not, cond, ◌&&◌, ◌||◌, List, ◌++◌, ℕ, ◌+◌, ◌-◌, ◌*◌, ◌/◌, ◌≤◌, min, eqb, leb, ltb, length, take, drop}
+use Rattle.std.specs.Prelude.{◌≡◌, Bool, true, false, not, cond, ◌&&◌, ◌||◌, List, ◌++◌, ℕ, ◌+◌, ◌-◌, ◌*◌, ◌/◌, ◌≤◌, min, eqb, leb, ltb, length, take, drop, Option, Some, None, Result, Ok, Err}
 use Rattle.records.specs.BoxRecord.{box_bytes}
-use Rattle.mot_line.specs.declared.call.Answer.{Answer}
-use Rattle.mot_line.specs.declared.call.Answer.TheVariants.{Read, Refused}
+use Rattle.mot_line.specs.declared.call.Refusal.{Refusal}
 use Rattle.mot_line.specs.Call.{number, mot_line}
-use Rattle.program_io.specs.declared.calls.Input.{Input}
-use Rattle.program_io.specs.declared.calls.Input.TheVariants.{Bytes, Failed}
 use Rattle.program_io.specs.Input.{Within}
 use Rattle.motbox_io.specs.declared.progress.Progress.{Progress}
 use Rattle.motbox_io.specs.Text.{has_line, line_length, later}
@@ -43,19 +40,19 @@ abbrev pub emptied : Progress → Bool → Progress
 emptied p written = cond written (cleared p) (stopped p)
 
 -- a buffer that is not full is the last
-abbrev pub refilled : Progress → ℕ → ℕ → Input → Progress
-refilled p kept size (Bytes n) =
+abbrev pub refilled : Progress → ℕ → ℕ → Option ℕ → Progress
+refilled p kept size (Some n) =
     record { previous = p.previous; lines = p.lines; got = min (kept + n) size; next = 0; used = p.used; more = leb size (min (kept + n) size); going = p.going; failed = p.failed; refusal = p.refusal }
-refilled p kept size Failed = stopped p
+refilled p kept size None = stopped p
 
 abbrev pub done : Progress → Progress
 done p = record { previous = p.previous; lines = p.lines; got = p.got; next = p.next; used = p.used; more = p.more; going = false; failed = p.failed; refusal = p.refusal }
 
 -- the record of a line waits behind those that wait already; a line that is turned away ends the run
-abbrev pub answered : Progress → ℕ → ℕ → Answer → Progress
-answered p n size (Read frame) =
+abbrev pub answered : Progress → ℕ → ℕ → Result ℕ Refusal → Progress
+answered p n size (Ok frame) =
     record { previous = frame; lines = later p.lines; got = p.got; next = min (p.next + n) p.got; used = min (p.used + box_bytes) size; more = p.more; going = p.going; failed = p.failed; refusal = p.refusal }
-answered p n size (Refused why) =
+answered p n size (Err why) =
     record { previous = p.previous; lines = p.lines; got = p.got; next = p.next; used = p.used; more = p.more; going = false; failed = p.failed; refusal = number why }
 
 -- what was read lies in the buffer
@@ -75,7 +72,7 @@ pub record Empties (p : Progress) (due : Bool) (r : Progress) : Type 0 where
   pub so : r ≡ cond due (emptied p written) p
 
 pub record Fills (p : Progress) (dry : Bool) (r : Progress) (before after : List ℕ) : Type 0 where
-  pub input : Input
+  pub input : Option ℕ
   pub within : (p.going && dry) ≡ true → Within (length before - (p.got - p.next)) input
   pub so : r ≡ cond (p.going && dry) (refilled p (p.got - p.next) (length before) input) p
   -- what is left goes to the front, or the buffer stays

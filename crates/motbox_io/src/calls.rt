@@ -2,7 +2,7 @@
 ghost use Rattle.std.specs.Prelude.{◌≤◌, length};
 ghost use Rattle.program_io.specs.Input.{Within};
 
-use program_io::{Input, Streams, read_in, write_out};
+use program_io::{Streams, read_in, write_out};
 
 // Writes out the records that wait at the front. False where a write failed.
 pub(crate) fn flush(streams: Streams, used: usize, out: &[u8]) -> bool
@@ -11,7 +11,8 @@ pub(crate) fn flush(streams: Streams, used: usize, out: &[u8]) -> bool
     write_out(streams, b"motbox: standard output", &out[..used])
 }
 
-pub(crate) fn read(streams: Streams, room: &mut [u8]) -> Input
+// How many bytes were read. None: the read failed.
+pub(crate) fn read(streams: Streams, room: &mut [u8]) -> Option<usize>
     ensures { Within (length room.old) result }
 {
     read_in(streams, b"motbox: standard input", room)

@@ -29,10 +29,7 @@ pub(crate) fn shift(input: &mut [u8], next: usize, got: usize)
     requires fact_2 { got ≤ length input.old }
     ensures { input.new ≡ take (got - next) (drop next input.old) ++ drop (got - next) input.old }
 {
-    let n = got - next;
-    let mut i = 0;
-    while i < n {
+    for i in 0..got - next {
         input[i] = input[next + i];
-        i += 1;
     }
 }

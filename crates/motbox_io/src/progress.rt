@@ -3,8 +3,8 @@ ghost use Rattle.std.specs.Prelude.{◌≡◌, ◌≤◌};
 ghost use Rattle.motbox_io.specs.Text as Text;
 ghost use Rattle.motbox_io.specs.Turn as Spec;
 
-use mot_line::Answer;
-use program_io::{Input, end_of};
+use mot_line::Refusal;
+use program_io::end_of;
 use records::BOX_BYTES;
 
 // What is known between two turns.
@@ -65,19 +65,17 @@ pub(crate) fn dry(p: Progress, size: usize, whole: bool) -> bool
 pub(crate) fn later(lines: u64) -> u64
     ensures { result ≡ Text.later lines }
 {
-    if lines < 18446744073709551615 {
-        return lines + 1;
-    }
-    18446744073709551615
+    lines.saturating_add(1)
 }
 
 fn stopped(p: Progress) -> Progress
     ensures { result ≡ Spec.stopped p }
 {
-    let mut now = p;
-    now.going = false;
-    now.failed = true;
-    now
+    Progress {
+        going: false,
+        failed: true,
+        ..p
+    }
 }
 
 // What waited is written out, or not.
@@ -87,25 +85,22 @@ pub(crate) fn emptied(p: Progress, written: bool) -> Progress
     if !written {
         return stopped(p);
     }
-    let mut now = p;
-    now.used = 0;
-    now
+    Progress { used: 0, ..p }
 }
 
 // The buffer of `size` bytes was filled behind the `kept` ones that were left, or the read failed.
-pub(crate) fn refilled(p: Progress, kept: usize, size: usize, input: Input) -> Progress
+pub(crate) fn refilled(p: Progress, kept: usize, size: usize, input: Option<usize>) -> Progress
     ensures { result ≡ Spec.refilled p kept size input }
 {
-    match input {
-        Input::Bytes(n) => {
-            let got = end_of(kept, n, size);
-            let mut now = p;
-            now.got = got;
-            now.next = 0;
-            now.more = size <= got;
-            now
-        }
-        Input::Failed => stopped(p),
+    let Some(n) = input else {
+        return stopped(p);
+    };
+    let got = end_of(kept, n, size);
+    Progress {
+        got,
+        next: 0,
+        more: size <= got,
+        ..p
     }
 }
 
@@ -113,31 +108,25 @@ pub(crate) fn refilled(p: Progress, kept: usize, size: usize, input: Input) -> P
 pub(crate) fn done(p: Progress) -> Progress
     ensures { result ≡ Spec.done p }
 {
-    let mut now = p;
-    now.going = false;
-    now
+    Progress { going: false, ..p }
 }
 
 // A line of n bytes was read or turned away. `size` is what the records have room for.
-pub(crate) fn answered(p: Progress, n: usize, size: usize, answer: Answer) -> Progress
+pub(crate) fn answered(p: Progress, n: usize, size: usize, answer: Result<u32, Refusal>) -> Progress
     ensures { result ≡ Spec.answered p n size answer }
 {
     match answer {
-        Answer::Read(frame) => {
-            let next = end_of(p.next, n, p.got);
-            let used = end_of(p.used, BOX_BYTES, size);
-            let mut now = p;
-            now.previous = frame;
-            now.lines = later(p.lines);
-            now.next = next;
-            now.used = used;
-            now
-        }
-        Answer::Refused(why) => {
-            let mut now = p;
-            now.going = false;
-            now.refusal = why.number();
-            now
-        }
+        Ok(frame) => Progress {
+            previous: frame,
+            lines: later(p.lines),
+            next: end_of(p.next, n, p.got),
+            used: end_of(p.used, BOX_BYTES, size),
+            ..p
+        },
+        Err(why) => Progress {
+            going: false,
+            refusal: u32::from(why),
+            ..p
+        },
     }
 }

@@ -101,10 +101,11 @@ pub fn run(streams: Streams) -> Progress
     let mut input = [0u8; INPUT_BYTES];
     let mut out = [0u8; OUTPUT_BYTES];
     let mut now = start();
-    let mut turns = u64::MAX;
-    while (0 < turns) & now.going {
+    for _made in 0..u64::MAX {
+        if !now.going {
+            break;
+        }
         now = turn(streams, now, &mut input, &mut out);
-        turns -= 1;
     }
     let last = empty(streams, now, !now.failed, &out);
     tell(streams.errors, last, &input);

@@ -95,9 +95,10 @@ pub(crate) fn explain(errors: Stderr, number: u32, lines: u64, line: &[u8], prev
     say(errors, b" line ");
     say_number(errors, later(lines));
     say(errors, b"\n");
-    let Report::Field(fault, i, byte) = report(line, previous) else {
+    let Err(found) = report(line, previous) else {
         return;
     };
-    say_fault(errors, fault, i, byte, line.len());
+    let Report { fault, field, byte } = found;
+    say_fault(errors, fault, field, byte, line.len());
     say(errors, b"\n");
 }

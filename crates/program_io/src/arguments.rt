@@ -6,19 +6,12 @@ use std::env::{Env, FillError};
 // The program was started with an argument i.
 pub fn has_argument<E: Env>(env: &E, i: usize) -> bool {
     let mut front = [0u8; 1];
-    match env.arg(i, &mut front) {
-        Ok(_) => true,
-        Err(FillError::TooLong) => true,
-        Err(FillError::NotPresent) => false,
-    }
+    !matches!(env.arg(i, &mut front), Err(FillError::NotPresent))
 }
 
 // Argument i at the front of the room, and how long it is; 0 where it is missing, or longer than the room.
 pub fn argument<E: Env>(env: &E, i: usize, room: &mut [u8]) -> usize
     ensures { result ≤ length room.new }
 {
-    match env.arg(i, room) {
-        Ok(n) => n,
-        Err(_) => 0,
-    }
+    env.arg(i, room).unwrap_or(0)
 }

@@ -5,11 +5,5 @@ ghost use Rattle.std.specs.Prelude.{◌≡◌, ◌+◌, min};
 pub fn end_of(start: usize, n: usize, size: usize) -> usize
     ensures { result ≡ min (start + n) size }
 {
-    if size < start {
-        return size;
-    }
-    if size - start < n {
-        return size;
-    }
-    start + n
+    start.saturating_add(n).min(size)
 }

@@ -6,49 +6,45 @@ use crate::failure::fail;
 use std::io;
 use std::io::{Read, Stderr};
 
-// What was read.
-#[derive(Drop)]
-pub enum Input {
-    // So many bytes.
-    Bytes(usize),
-    Failed,
-}
-
-// What a call answered. One that failed is said.
-fn input_of(errors: Stderr, who: &[u8], got: io::Result<usize>) -> Input
+// How many bytes a call read. None: it failed, and that is said.
+fn input_of(errors: Stderr, who: &[u8], got: io::Result<usize>) -> Option<usize>
     ensures { result ≡ input_of got }
 {
     match got {
-        Ok(n) => Input::Bytes(n),
+        Ok(n) => Some(n),
         Err(e) => {
             fail(errors, who, e);
-            Input::Failed
+            None
         }
     }
 }
 
-// One call: it may bring less than is there, and brings nothing at the end.
-fn read<R: Read>(from: &mut R, errors: Stderr, who: &[u8], room: &mut [u8]) -> Input
+// How many bytes one call read: it may bring less than is there, and brings nothing at the end.
+fn read<R: Read>(from: &mut R, errors: Stderr, who: &[u8], room: &mut [u8]) -> Option<usize>
     ensures { Within (length room.old) result }
 {
     let got = from.read(room);
     input_of(errors, who, got)
 }
 
-// Reads on until there is no room, or the end: what is less than there is room for is the last.
-pub fn read_full<R: Read>(from: &mut R, errors: Stderr, who: &[u8], room: &mut [u8]) -> Input
+// Reads on until there is no room, or the end, and answers how many bytes it read: what is less than there is room for is the last. None: a call failed.
+pub fn read_full<R: Read>(
+    from: &mut R,
+    errors: Stderr,
+    who: &[u8],
+    room: &mut [u8],
+) -> Option<usize>
     ensures { Within (length room.old) result }
 {
     let size = room.len();
     let mut n = 0;
+    // Kept: n grows by what a call read, not by one.
     while n < size {
-        let Input::Bytes(more) = read(from, errors, who, &mut room[n..]) else {
-            return Input::Failed;
-        };
+        let more = read(from, errors, who, &mut room[n..])?;
         if more == 0 {
-            return Input::Bytes(n);
+            return Some(n);
         }
         n += more;
     }
-    Input::Bytes(n)
+    Some(n)
 }

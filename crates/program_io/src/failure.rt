@@ -25,8 +25,7 @@ fn put_text(error: Error, room: &mut [u8]) -> usize
     let size = room.len();
     let mut front = Cursor::new(room);
     let _ = write!(front, "{error}");
-    let n = front.position();
-    if n < size as u64 { n as usize } else { size }
+    front.position().min(size as u64) as usize
 }
 
 // A line on standard error: what failed, and the system's words. Where it cannot be written, nothing is left to say it by.

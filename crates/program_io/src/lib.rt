@@ -9,6 +9,6 @@ mod standard;
 
 pub use arguments::{argument, has_argument};
 pub use buffer::end_of;
-pub use calls::{Input, read_full};
+pub use calls::read_full;
 pub use failure::fail;
 pub use standard::{Streams, read_in, write_out};

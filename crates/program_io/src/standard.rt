@@ -2,7 +2,7 @@
 ghost use Rattle.std.specs.Prelude.{length};
 ghost use Rattle.program_io.specs.Input.{Within};
 
-use crate::calls::{Input, read_full};
+use crate::calls::read_full;
 use crate::failure::fail;
 use std::io::{Print, Stderr, Stdin, Stdout};
 
@@ -14,8 +14,8 @@ pub struct Streams {
     pub errors: Stderr,
 }
 
-// Reads until there is no room, or the end.
-pub fn read_in(streams: Streams, who: &[u8], room: &mut [u8]) -> Input
+// Reads until there is no room, or the end, and answers how many bytes it read. None: a call failed.
+pub fn read_in(streams: Streams, who: &[u8], room: &mut [u8]) -> Option<usize>
     ensures { Within (length room.old) result }
 {
     let mut from = streams.input;

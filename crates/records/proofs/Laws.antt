@@ -16,11 +16,8 @@ use lib.Seq.{take_all, take_at, drop_at, length-take-le}
 use borrow.Author.Tests.{lt-ltb, le-leb}
 use Rattle.laws.specs.Splice.{splice, length-splice}
 use Rattle.records.specs.declared.box_record.BoxRecord.{BoxRecord}
-use Rattle.records.specs.declared.box_record.BoxAnswer.TheVariants as box-answer
+use Rattle.std.specs.Prelude.{Option, Some, None}
 use Rattle.records.specs.declared.track_record.TrackRecord.{TrackRecord}
-use Rattle.records.specs.declared.track_record.TrackAnswer.TheVariants as track-answer
-use Rattle.records.specs.declared.Written.{Written}
-use Rattle.records.specs.declared.Written.TheVariants as written
 use Rattle.records.specs.Written.{WritesRecord, WritesText}
 use Rattle.records.specs.Field.{little_endian, value, part, AreBytes}
 use Rattle.records.specs.BoxRecord.{box_bytes, bytes_of_box, box_of, box_at}
@@ -67,19 +64,19 @@ nth_part : (s k : ℕ) (xs l : List ℕ) → length xs ≡ s → k * s + s ≤ l
 nth_part s k xs l e h =
     rw (drop_at (take (k * s) l) (xs ++ drop (k * s + length xs) l) (k * s) (length-take-le (k * s) l (omega arith))) (take_at xs (drop (k * s + length xs) l) s e)
 
-pub box-written : (r : BoxRecord) (k : ℕ) (l : List ℕ) → BoxFits r → k < length l / box_bytes → box_at (splice l (k * box_bytes) (bytes_of_box r)) k ≡ box-answer.Read r
+pub box-written : (r : BoxRecord) (k : ℕ) (l : List ℕ) → BoxFits r → k < length l / box_bytes → box_at (splice l (k * box_bytes) (bytes_of_box r)) k ≡ Some r
 unfolding box_at
 box-written r k l h q =
     let n = length-box r in
     let e : length (splice l (k * box_bytes) (bytes_of_box r)) ≡ length l = length-splice l (k * box_bytes) (bytes_of_box r) (omega arith) in
-    rw (e, lt-ltb k (length l / box_bytes) q) (ap box-answer.Read (ap box_of (nth_part box_bytes k (bytes_of_box r) l n (omega arith)) ∙ box_decode r h))
+    rw (e, lt-ltb k (length l / box_bytes) q) (ap Some (ap box_of (nth_part box_bytes k (bytes_of_box r) l n (omega arith)) ∙ box_decode r h))
 
-pub track-written : (t : TrackRecord) (k : ℕ) (l : List ℕ) → TrackFits t → k < length l / track_bytes → track_at (splice l (k * track_bytes) (bytes_of_track t)) k ≡ track-answer.Read t
+pub track-written : (t : TrackRecord) (k : ℕ) (l : List ℕ) → TrackFits t → k < length l / track_bytes → track_at (splice l (k * track_bytes) (bytes_of_track t)) k ≡ Some t
 unfolding track_at
 track-written t k l h q =
     let n = length-track t in
     let e : length (splice l (k * track_bytes) (bytes_of_track t)) ≡ length l = length-splice l (k * track_bytes) (bytes_of_track t) (omega arith) in
-    rw (e, lt-ltb k (length l / track_bytes) q) (ap track-answer.Read (ap track_of (nth_part track_bytes k (bytes_of_track t) l n (omega arith)) ∙ track_decode t h))
+    rw (e, lt-ltb k (length l / track_bytes) q) (ap Some (ap track_of (nth_part track_bytes k (bytes_of_track t) l n (omega arith)) ∙ track_decode t h))
 
 -- ---- bytes that are read and written again are the same, but for the four bytes of each f32 that are a NaN's pattern: they become those of the one NaN
 
@@ -116,10 +113,10 @@ track-same l h n m =
 
 -- ---- for callers: what a call that had room answered and left
 
-pub record_fitted : (s k : ℕ) (xs out : List ℕ) (w : Written) (out' : List ℕ) → WritesRecord s k xs out w out' → k < length out / s → (w ≡ written.Bytes (length xs)) × (out' ≡ splice out (k * s) xs)
+pub record_fitted : (s k : ℕ) (xs out : List ℕ) (w : Option ℕ) (out' : List ℕ) → WritesRecord s k xs out w out' → k < length out / s → (w ≡ Some (length xs)) × (out' ≡ splice out (k * s) xs)
 record_fitted s k xs out w out' h q = let e = lt-ltb k (length out / s) q in (rw e at h.answer, rw e at h.cells)
 
-pub text_fitted : (xs out : List ℕ) (w : Written) (out' : List ℕ) → WritesText xs out w out' → length xs ≤ length out → (w ≡ written.Bytes (length xs)) × (out' ≡ splice out 0 xs)
+pub text_fitted : (xs out : List ℕ) (w : Option ℕ) (out' : List ℕ) → WritesText xs out w out' → length xs ≤ length out → (w ≡ Some (length xs)) × (out' ≡ splice out 0 xs)
 text_fitted xs out w out' h q = let e = le-leb (length xs) (length out) q in (rw e at h.answer, rw e at h.cells)
 
 -- a text that was written at the front is there

@@ -1,12 +1,12 @@
--- What one, four and eight bytes are read as. Assumes nothing.
-use mathlib.Core.Path.{◌≡◌, sym, ap, ◌∙◌}
-use mathlib.Core.List.{List, [], ◌∷◌, ◌++◌}
-use Prim.Native.Nat.{ℕ, suc, ◌+◌, ◌*◌, ◌^◌}
-use native.Mathlib.Nat.{zero-add, one-mul, mul_assoc, pow-succ'}
+-- What one, four and eight bytes are read as, and the bytes of a number as std gives them. Assumes nothing.
+use mathlib.Core.Path.{◌≡◌, refl, ap, ◌∙◌}
+use mathlib.Core.List.{List, [], ◌∷◌}
+use Prim.Native.Nat.{ℕ, zero, suc, ◌/◌, ◌%◌, ◌^◌}
+use native.Mathlib.Nat.{div-div-eq-div-mul, pow-suc}
 use native.Mathlib.Omega.{arith}
-use lib.ListN.{length, get_or, take, drop, take-append-drop, length-drop}
-use lib.Seq.{length-take-le, take_all}
-use Rattle.records.specs.Field.{value}
+use lib.ListN.{length, get_or}
+use Rattle.std.specs.Int.{w32, w64, byte_at, bytes_low_first, from_le_bytes}
+use Rattle.records.specs.Field.{value, little_endian}
 
 pub one_byte : (l : List ℕ) → length l ≡ 1 → get_or l 0 0 ≡ value l
 unfolding value
@@ -14,7 +14,7 @@ one_byte [] e = absurd (omega arith)
 one_byte (a ∷ []) e = omega arith
 one_byte (a ∷ b ∷ l) e = absurd (omega arith)
 
-value-four : (l : List ℕ) → length l ≡ 4 → get_or l 0 0 + 256 * (get_or l 1 0 + 256 * (get_or l 2 0 + 256 * get_or l 3 0)) ≡ value l
+pub value-four : (l : List ℕ) → length l ≡ 4 → from_le_bytes w32 (get_or l 0 0 ∷ get_or l 1 0 ∷ get_or l 2 0 ∷ get_or l 3 0 ∷ []) ≡ value l
 unfolding value
 value-four [] e = absurd (omega arith)
 value-four (a ∷ []) e = absurd (omega arith)
@@ -23,23 +23,19 @@ value-four (a ∷ b ∷ c ∷ []) e = absurd (omega arith)
 value-four (a ∷ b ∷ c ∷ d ∷ []) e = omega arith
 value-four (a ∷ b ∷ c ∷ d ∷ x ∷ l) e = absurd (omega arith)
 
--- the same of numbers that equal the bytes
-pub four_bytes : (l : List ℕ) (a b c d : ℕ) → length l ≡ 4 → a ≡ get_or l 0 0 → b ≡ get_or l 1 0 → c ≡ get_or l 2 0 → d ≡ get_or l 3 0 → a + 256 * (b + 256 * (c + 256 * d)) ≡ value l
-four_bytes l a b c d n p q r s = let e = value-four l n in omega arith
-
-value-append : (xs ys : List ℕ) → value (xs ++ ys) ≡ value xs + 256 ^ length xs * value ys
+pub value-eight : (l : List ℕ) → length l ≡ 8
+    → from_le_bytes w64 (get_or l 0 0 ∷ get_or l 1 0 ∷ get_or l 2 0 ∷ get_or l 3 0 ∷ get_or l 4 0 ∷ get_or l 5 0 ∷ get_or l 6 0 ∷ get_or l 7 0 ∷ []) ≡ value l
 unfolding value
-value-append [] ys = sym (zero-add (1 * value ys) ∙ one-mul (value ys))
-value-append (x ∷ xs) ys =
-    let p : 256 ^ suc (length xs) * value ys ≡ 256 * (256 ^ length xs * value ys) = ap (λ (k : ℕ). k * value ys) (pow-succ' 256 (length xs)) ∙ mul_assoc 256 (256 ^ length xs) (value ys) in
-    let r = value-append xs ys in
-    omega arith
+value-eight (a ∷ b ∷ c ∷ d ∷ p ∷ q ∷ r ∷ s ∷ []) e = omega arith
+value-eight l e = absurd (omega arith)
 
-value_eight : (l : List ℕ) → length l ≡ 8 → value (take 4 l) + 0x1_0000_0000 * value (take 4 (drop 4 l)) ≡ value l
-value_eight l e =
-    let n : length (take 4 l) ≡ 4 = length-take-le 4 l (omega arith) in
-    let rest : take 4 (drop 4 l) ≡ drop 4 l = take_all 4 (drop 4 l) (rw length-drop (omega arith)) in
-    rw rest (ap (λ (k : ℕ). value (take 4 l) + 256 ^ k * value (drop 4 l)) (sym n) ∙ sym (value-append (take 4 l) (drop 4 l)) ∙ ap value (take-append-drop 4 l))
+-- std's bytes of a number are those of the definition
+byte_is : (i n : ℕ) → byte_at i n ≡ n / 256 ^ i % 256
+byte_is zero n = omega arith
+byte_is (suc i) n = refl
 
-pub eight_bytes : (l : List ℕ) (low high : ℕ) → length l ≡ 8 → low ≡ value (take 4 l) → high ≡ value (take 4 (drop 4 l)) → low + 0x1_0000_0000 * high ≡ value l
-eight_bytes l low high n p q = let e = value_eight l n in omega arith
+pub low_first : (k i n : ℕ) → bytes_low_first i k n ≡ little_endian k (n / 256 ^ i)
+unfolding little_endian
+low_first zero i n = refl
+low_first (suc k) i n =
+    rw (byte_is i n, low_first k (suc i) n) (ap (λ (m : ℕ). n / 256 ^ i % 256 ∷ little_endian k m) (ap (λ (m : ℕ). n / m) (pow-suc 256 i) ∙ rw div-div-eq-div-mul))

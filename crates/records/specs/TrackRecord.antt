@@ -1,9 +1,6 @@
--- Document 01: "A track record is 32 bytes: frame u32, id u64, left, top, width, height, confidence as f32." 02, N2: "track records 33, the label last". Little-endian, as a box record.
-use Rattle.std.specs.Prelude.{cond, List, ◌++◌, ℕ, ◌*◌, ◌/◌, ltb, length}
-use Rattle.records.specs.declared.Written.{Written}
+-- A track record is 33 bytes, little-endian: frame u32, id u64, left, top, width, height, confidence as f32, and the label in one byte, last.
+use Rattle.std.specs.Prelude.{◌≡◌, refl, cond, List, ◌++◌, ℕ, ◌*◌, ◌/◌, ltb, length, Option, Some, None}
 use Rattle.records.specs.declared.track_record.TrackRecord.{TrackRecord}
-use Rattle.records.specs.declared.track_record.TrackAnswer.{TrackAnswer}
-use Rattle.records.specs.declared.track_record.TrackAnswer.TheVariants.{Read, Short}
 use Rattle.records.specs.Field.{little_endian, value, five, part, float_at}
 use Rattle.records.specs.Written.{WritesRecord}
 
@@ -17,9 +14,13 @@ abbrev pub track_of : List ℕ → TrackRecord
 track_of l =
     record { frame = value (part 0 4 l); id = value (part 4 8 l); left = float_at 12 l; top = float_at 16 l; width = float_at 20 l; height = float_at 24 l; confidence = float_at 28 l; label = value (part 32 1 l) }
 
--- record k of a slice, where it has more than k whole ones
-unfoldable pub track_at : List ℕ → ℕ → TrackAnswer
-track_at l k = cond (ltb k (length l / track_bytes)) (Read (track_of (part (k * track_bytes) track_bytes l))) Short
+pub length-track : (t : TrackRecord) → length (bytes_of_track t) ≡ track_bytes
+unfolding little_endian
+length-track t = refl
 
-abbrev pub WritesTrack : TrackRecord → ℕ → List ℕ → Written → List ℕ → Type 0
+-- record k of a slice, where it has more than k whole ones
+unfoldable pub track_at : List ℕ → ℕ → Option TrackRecord
+track_at l k = cond (ltb k (length l / track_bytes)) (Some (track_of (part (k * track_bytes) track_bytes l))) None
+
+abbrev pub WritesTrack : TrackRecord → ℕ → List ℕ → Option ℕ → List ℕ → Type 0
 WritesTrack t k out w out' = WritesRecord track_bytes k (bytes_of_track t) out w out'

@@ -1,20 +1,18 @@
--- What a call that writes answers, and each cell of the slice that it was lent.
-use Rattle.std.specs.Prelude.{◌≡◌, Bool, cond, List, ℕ, ◌+◌, ◌*◌, ◌/◌, ◌≤◌, leb, ltb, length}
+-- What a call that writes answers, how many bytes it wrote or that there was no room, and each cell of the slice that it was lent.
+use Rattle.std.specs.Prelude.{◌≡◌, Bool, cond, List, ℕ, ◌+◌, ◌*◌, ◌/◌, ◌≤◌, leb, ltb, length, Option, Some, None}
 use Rattle.laws.specs.Splice.{splice}
-use Rattle.records.specs.declared.Written.{Written}
-use Rattle.records.specs.declared.Written.TheVariants.{Bytes, Short}
 
 -- xs is written from `at` on where it fits, and all other bytes are as they were; where it does not fit no byte is written
-pub record Writes (fits : Bool) (at : ℕ) (xs out : List ℕ) (w : Written) (out' : List ℕ) : Type 0 where
-  pub answer : w ≡ cond fits (Bytes (length xs)) Short
+pub record Writes (fits : Bool) (at : ℕ) (xs out : List ℕ) (w : Option ℕ) (out' : List ℕ) : Type 0 where
+  pub answer : w ≡ cond fits (Some (length xs)) None
   pub cells : out' ≡ cond fits (splice out at xs) out
 
 -- record k of records of s bytes: it fits where the slice has more than k whole ones
-abbrev pub WritesRecord : ℕ → ℕ → List ℕ → List ℕ → Written → List ℕ → Type 0
+abbrev pub WritesRecord : ℕ → ℕ → List ℕ → List ℕ → Option ℕ → List ℕ → Type 0
 WritesRecord s k xs out w out' = Writes (ltb k (length out / s)) (k * s) xs out w out'
 
 -- a text, at the front
-abbrev pub WritesText : List ℕ → List ℕ → Written → List ℕ → Type 0
+abbrev pub WritesText : List ℕ → List ℕ → Option ℕ → List ℕ → Type 0
 WritesText xs out w out' = Writes (leb (length xs) (length out)) 0 xs out w out'
 
 -- ---- between the functions that write: what one hands to the next

@@ -1,14 +1,15 @@
 // A track record: TRACK_BYTES bytes, a frame number, an emitted track and its label.
-ghost use Rattle.std.specs.Prelude.{◌≡◌, ◌+◌, ◌≤◌, length};
-ghost use Rattle.records.specs.TrackRecord.{track_bytes, track_of, bytes_of_track, track_at, WritesTrack};
-ghost use Rattle.records.specs.Written.{Put};
+ghost use Rattle.std.specs.Prelude.{◌≡◌};
+ghost use Rattle.records.specs.TrackRecord.{track_bytes, track_of, bytes_of_track, track_at, WritesTrack, length-track};
+ghost use Rattle.std.proofs.Common.{lit<};
 
-use super::Written;
-use super::field::{f32_of, put_five, put_u8, put_u32, put_u64, u8_of, u32_of, u64_of};
+use super::field::{f32_of, put_bytes, put_five, put_u8, u8_of, u32_of, u64_of};
+use super::record;
+use super::record::Record;
 
 pub const TRACK_BYTES: usize = 33;
 
-#[derive(Drop)]
+#[derive(Clone, Copy, Debug, PartialEq)]
 pub struct TrackRecord {
     pub frame: u32,
     pub id: u64,
@@ -20,57 +21,59 @@ pub struct TrackRecord {
     pub label: u8,
 }
 
-// The answer of a call that reads: the record, or that the slice ends before it does.
-#[derive(Drop)]
-pub enum TrackAnswer {
-    Read(TrackRecord),
-    Short,
-}
+impl Record for TrackRecord {
+    const SIZE: usize = TRACK_BYTES;
 
-fn track_of(b: &[u8]) -> TrackRecord
-    requires { length b.now ≡ track_bytes }
-    ensures { result ≡ track_of b.now }
-{
-    TrackRecord {
-        frame: u32_of(&b[0..4]),
-        id: u64_of(&b[4..12]),
-        left: f32_of(&b[12..16]),
-        top: f32_of(&b[16..20]),
-        width: f32_of(&b[20..24]),
-        height: f32_of(&b[24..28]),
-        confidence: f32_of(&b[28..32]),
-        label: u8_of(&b[32..33]),
+    ghost SIZE = { track_bytes };
+
+    ghost of = { track_of };
+
+    ghost bytes = { bytes_of_track };
+
+    fn of(b: &[u8]) -> TrackRecord {
+        TrackRecord {
+            frame: u32_of(&b[0..4]),
+            id: u64_of(&b[4..12]),
+            left: f32_of(&b[12..16]),
+            top: f32_of(&b[16..20]),
+            width: f32_of(&b[20..24]),
+            height: f32_of(&b[24..28]),
+            confidence: f32_of(&b[28..32]),
+            label: u8_of(&b[32..33]),
+        }
     }
+
+    fn put(self, out: &mut [u8], at: usize) -> usize {
+        let id = put_bytes(out, at, &self.frame.to_le_bytes());
+        let floats = put_bytes(out, id, &self.id.to_le_bytes());
+        let label = put_five(
+            out,
+            floats,
+            self.left,
+            self.top,
+            self.width,
+            self.height,
+            self.confidence,
+        );
+        put_u8(out, label, self.label)
+    }
+
+    ghost some = { lit< tt };
+
+    ghost long = { length-track };
 }
 
-fn put_track(out: &mut [u8], at: usize, t: TrackRecord) -> usize
-    requires { at + track_bytes ≤ length out.old }
-    ensures { Put at (bytes_of_track t) out.old result out.new }
-{
-    let id = put_u32(out, at, t.frame);
-    let floats = put_u64(out, id, t.id);
-    let label = put_five(out, floats, t.left, t.top, t.width, t.height, t.confidence);
-    put_u8(out, label, t.label)
-}
-
-// Track record k of a slice of track records, counted from 0.
-pub fn read_track(bytes: &[u8], k: usize) -> TrackAnswer
+// Track record k of a slice of track records, counted from 0. None: the slice ends before it does.
+#[tactic(auto, unfolding(crate::specs::TrackRecord::track_at))]
+pub fn read_track(bytes: &[u8], k: usize) -> Option<TrackRecord>
     ensures { result ≡ track_at bytes.now k }
 {
-    if k < bytes.len() / TRACK_BYTES {
-        let at = k * TRACK_BYTES;
-        return TrackAnswer::Read(track_of(&bytes[at..at + TRACK_BYTES]));
-    }
-    TrackAnswer::Short
+    record::read(bytes, k)
 }
 
-// Writes t as track record k, counted from 0.
-pub fn write_track(t: TrackRecord, k: usize, out: &mut [u8]) -> Written
+// Writes t as track record k, counted from 0, and answers how many bytes that is. None: the slice is too short, and no byte is written.
+pub fn write_track(t: TrackRecord, k: usize, out: &mut [u8]) -> Option<usize>
     ensures { WritesTrack t k out.old result out.new }
 {
-    if k < out.len() / TRACK_BYTES {
-        put_track(out, k * TRACK_BYTES, t);
-        return Written::Bytes(TRACK_BYTES);
-    }
-    Written::Short
+    record::write(t, k, out)
 }

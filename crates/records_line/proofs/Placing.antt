@@ -1,37 +1,32 @@
--- Decimal digits counted: what the loop knows when it counts the k-th and `rest` is left of n. Assumes nothing.
-use mathlib.Core.Path.{◌≡◌, refl, ap}
-use Prim.Native.Nat.{ℕ, zero, suc, ◌+◌, ◌/◌, ◌^◌, ◌≤◌, ◌<◌}
-use native.Mathlib.Nat.{lt_of_lt_of_le}
+-- Decimal digits counted by the power of ten that a number comes to. Assumes nothing.
+use mathlib.Core.Path.{◌≡◌, refl, sym, ap, ◌∙◌}
+use Prim.Native.Nat.{ℕ, zero, suc, ◌+◌, ◌*◌, ◌^◌, ◌≤◌, ◌<◌, max}
+use native.Mathlib.Nat.{lt_of_lt_of_le, pow-succ', pow-le-pow_right}
+use native.Mathlib.Decide.{dec_le}
 use native.Mathlib.Omega.{arith}
 use lib.Dec.{lit<, lit≤}
 use lib.Ieee.{Float}
 use Rattle.records.specs.Field.{bits}
-use Rattle.records_line.specs.Text.{places_up_to, places, digits, decimal, hex}
-use Rattle.records.proofs.Laws.Bytes.{quotient-below}
-use Rattle.records_line.proofs.Laws.Digits.{one_place, next_place}
+use Rattle.records_line.specs.Text.{places, digits, decimal, hex}
+use Rattle.records_line.proofs.Laws.Digits.{one_place, few-below, enough-places}
 
-pub record Placing (n k rest : ℕ) : Type 0 where
-  -- how many digits may follow
-  pub left : ℕ
-  pub most : k + left ≡ 20
-  pub below : rest < 10 ^ suc left
-  -- the digits of what is left are those of n that are not counted
-  pub whole : k + places_up_to left rest ≡ suc (places n)
-
-pub place-start : (n : ℕ) → n < 2 ^ 64 → Placing n 1 n
-place-start n h = record { left = 19; most = refl; below = lt_of_lt_of_le h (lit≤ tt); whole = omega arith }
-
-pub place-on : {n k rest : ℕ} → Placing n k rest → 10 ≤ rest → Placing n (k + 1) (rest / 10)
-place-on {n} {k} {rest} w h = go w.left w.most w.below w.whole
+-- a power of ten that n comes to, and the next, which it does not
+pub places-are : (k n : ℕ) → n < 2 ^ 64 → 10 ^ k ≤ n → n < 10 * 10 ^ k → k + 1 ≡ places n
+places-are k n wide low high =
+    let few : places n ≤ suc k = few-below 19 k n (rw (pow-succ' 10 k) high) in
+    let enough : n < 10 ^ places n = enough-places 19 n (lt_of_lt_of_le wide (lit≤ tt)) in
+    by_more (dec_le (suc k) (places n)) few enough
   where
-    go : (left : ℕ) → k + left ≡ 20 → rest < 10 ^ suc left → k + places_up_to left rest ≡ suc (places n) → Placing n (k + 1) (rest / 10)
-    go zero m b e = absurd (omega arith)
-    go (suc left) m b e =
-        let p = next_place left rest h in
-        record { left = left; most = omega arith; below = quotient-below 10 (suc left) rest (lit< tt) b; whole = omega arith }
+    by_more : Dec (suc k ≤ places n) → places n ≤ suc k → n < 10 ^ places n → k + 1 ≡ places n
+    by_more (yes m) few enough = omega arith
+    by_more (no m) few enough = let up : 10 ^ places n ≤ 10 ^ k = pow-le-pow_right (lit< tt) (omega arith) in absurd (omega arith)
 
-pub place_end : {n k rest : ℕ} → Placing n k rest → rest < 10 → k ≡ places n
-place_end {n} {k} {rest} w h = let p = one_place w.left rest h in let e = w.whole in omega arith
+-- where n is 0, the power is that of 1
+pub counted : (k n m : ℕ) → m ≡ max n 1 → n < 2 ^ 64 → 10 ^ k ≤ m → m < 10 * 10 ^ k → k + 1 ≡ places n
+counted k zero m e wide low high =
+    let one : m ≡ 1 = e ∙ refl in
+    places-are k 1 (lit< tt) (omega arith) (omega arith) ∙ one_place 19 1 (lit< tt) ∙ sym (one_place 19 0 (lit< tt))
+counted k (suc n) m e wide low high = let same : m ≡ suc n = omega arith in places-are k (suc n) wide (omega arith) (omega arith)
 
 pub decimal-is : (k n : ℕ) → k ≡ places n → digits 10 k n ≡ decimal n
 unfolding decimal

@@ -1,11 +1,11 @@
 -- A number spelt digit by digit, the last first: what the loop over m cells knows when those from i on are stored and `rest` is left of n. Assumes nothing.
-use mathlib.Core.Path.{◌≡◌, refl, sym, ap, ◌∙◌}
-use mathlib.Core.List.{List, ◌∷◌, ◌++◌, append-nil}
+use mathlib.Core.Path.{◌≡◌, sym, ap, ◌∙◌}
+use mathlib.Core.List.{List, ◌∷◌, ◌++◌}
 use Prim.Native.Nat.{ℕ, zero, suc, ◌-◌, ◌/◌, ◌%◌, ◌≤◌, ◌<◌}
 use native.Mathlib.Nat.{le_refl}
 use native.Mathlib.Omega.{arith}
 use lib.ListN.{length, drop, set, length-set}
-use lib.Seq.{drop-cons, drop-length, drop-set-lt, get_or-set_same, append_snoc}
+use lib.Seq.{drop-cons, drop-set-lt, get_or-set_same, append_snoc}
 use Rattle.records_line.specs.Text.{glyph, digits}
 
 pub record Spelling (b n m i rest : ℕ) (cells : List ℕ) : Type 0 where
@@ -13,9 +13,6 @@ pub record Spelling (b n m i rest : ℕ) (cells : List ℕ) : Type 0 where
   pub same : length cells ≡ m
   -- the digits of what is left and what is stored are the digits of n
   pub whole : digits b i rest ++ drop i cells ≡ digits b m n
-
-pub spell_start : (b n : ℕ) (l : List ℕ) → Spelling b n (length l) (length l) n l
-spell_start b n l = record { upto = le_refl (length l); same = refl; whole = rw (drop-length l) (append-nil (digits b (length l) n)) }
 
 pub spell_on : (b n m i rest v : ℕ) (cells : List ℕ) → Spelling b n m i rest cells → 0 < i → v ≡ glyph (rest % b) → Spelling b n m (i - 1) (rest / b) (set cells (i - 1) v)
 unfolding digits

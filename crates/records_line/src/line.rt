@@ -3,8 +3,8 @@ ghost use Rattle.std.specs.Prelude.{◌+◌, ◌≤◌, length};
 ghost use Rattle.records_line.specs.Line.{line, five_hex, refused_line};
 ghost use Rattle.records.specs.Written.{WritesText, Put};
 
-use super::text::{places, put_decimal, put_hex, put_word};
-use records::{TrackRecord, Written};
+use super::text::{places, put_decimal, put_hex};
+use records::{TrackRecord, put_bytes};
 
 // The most bytes that a track's line can have: two numbers of 20 digits, five of 8, and seven separators.
 pub const LINE_BYTES: usize = 87;
@@ -30,35 +30,35 @@ fn put_line(out: &mut [u8], t: TrackRecord) -> usize
 }
 
 // Writes the line of an emitted track at the front of out.
-pub fn write_line(t: TrackRecord, out: &mut [u8]) -> Written
+pub fn write_line(t: TrackRecord, out: &mut [u8]) -> Option<usize>
     ensures { WritesText (line t) out.old result out.new }
 {
     let n = places(t.frame as u64) + places(t.id) + 47;
     if out.len() < n {
-        return Written::Short;
+        return None;
     }
     put_line(out, t);
-    Written::Bytes(n)
+    Some(n)
 }
 
 fn put_refused(out: &mut [u8], number: u64, nth: u64) -> usize
     requires { length (refused_line number nth) ≤ length out.old }
     ensures { Put 0 (refused_line number nth) out.old result out.new }
 {
-    let at1 = put_word(out, 0, b"refused ");
+    let at1 = put_bytes(out, 0, b"refused ");
     let at2 = put_decimal(out, at1, number, b' ');
-    let at3 = put_word(out, at2, b"record ");
+    let at3 = put_bytes(out, at2, b"record ");
     put_decimal(out, at3, nth, b'\n')
 }
 
 // Writes the line of a refusal at the front of out: its number, and the record it names, counted from 1.
-pub fn write_refused(number: u64, nth: u64, out: &mut [u8]) -> Written
+pub fn write_refused(number: u64, nth: u64, out: &mut [u8]) -> Option<usize>
     ensures { WritesText (refused_line number nth) out.old result out.new }
 {
     let n = places(number) + places(nth) + 17;
     if out.len() < n {
-        return Written::Short;
+        return None;
     }
     put_refused(out, number, nth);
-    Written::Bytes(n)
+    Some(n)
 }

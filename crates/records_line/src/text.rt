@@ -3,19 +3,13 @@ ghost use Rattle.std.specs.Prelude.{◌≡◌, ◌+◌, ◌≤◌, ◌<◌, leng
 ghost use Rattle.records_line.specs.Text as Text;
 ghost use Rattle.records.specs.Written.{WritesText, Put};
 
-use records::{Written, bits};
+use records::bits;
 
 // How many decimal digits n has.
 pub(crate) fn places(n: u64) -> usize
     ensures { result ≡ Text.places n }
 {
-    let mut rest = n;
-    let mut k = 1;
-    while 10 <= rest {
-        rest /= 10;
-        k += 1;
-    }
-    k
+    n.max(1).ilog10() as usize + 1
 }
 
 fn glyph(d: u64) -> u8
@@ -35,9 +29,7 @@ fn spell(cells: &mut [u8], base: u64, n: u64)
     ensures { cells.new ≡ Text.digits base (length cells.old) n }
 {
     let mut rest = n;
-    let mut i = cells.len();
-    while 0 < i {
-        i -= 1;
+    for i in (0..cells.len()).rev() {
         cells[i] = glyph(rest % base);
         rest /= base;
     }
@@ -81,23 +73,14 @@ pub(crate) fn put_hex(out: &mut [u8], at: usize, x: f32, then: u8) -> usize
     put_number(out, at, 8, 16, bits(x) as u64, then)
 }
 
-pub(crate) fn put_word(out: &mut [u8], at: usize, word: &[u8]) -> usize
-    requires { at + length word.now ≤ length out.old }
-    ensures { Put at word.now out.old result out.new }
-{
-    let end = at + word.len();
-    out[at..end].copy_from_slice(word);
-    end
-}
-
-// Writes n in decimal at the front of out.
-pub fn write_decimal(n: u64, out: &mut [u8]) -> Written
+// Writes n in decimal at the front of out, and answers how many bytes that is. None: there is no room, and no byte is written. So of each line.
+pub fn write_decimal(n: u64, out: &mut [u8]) -> Option<usize>
     ensures { WritesText (Text.decimal n) out.old result out.new }
 {
     let k = places(n);
     if out.len() < k {
-        return Written::Short;
+        return None;
     }
     put_digits(out, 0, k, 10, n);
-    Written::Bytes(k)
+    Some(k)
 }

@@ -9,11 +9,11 @@ use Rattle.laws.specs.Choose.{cond_no}
 use Rattle.laws.specs.Tests.{or_none, true_not_false}
 use Rattle.refusals.specs.declared.refusal.Refusal.{Refusal}
 use Rattle.refusals.specs.declared.refusal.Refusal.TheVariants.{TooMany, OtherSize, TooShort, NotLabelled}
-use Rattle.refusals.specs.declared.refusal.Verdict.{Verdict}
-use Rattle.refusals.specs.declared.refusal.Verdict.TheVariants.{Accepted, Refused}
+use Rattle.std.specs.Bool.{⊤}
+use Rattle.std.proofs.Common.{Result, Ok, Err}
 use Rattle.refusals.specs.Refusal.{number, verdict_number, too_many, verdict, labelled_too}
 
-refused : (r : Refusal) → ◌≡◌ {A = Verdict} (Refused r) Accepted → ⊥
+refused : (r : Refusal) → ◌≡◌ {A = Result ⊤ Refusal} (Err r) (Ok tt) → ⊥
 refused r q = let z : ◌≡◌ {A = ℕ} 0 1 = cc in omega arith
 
 -- no refusal has the number of an accepted call
@@ -23,9 +23,9 @@ number-some OtherSize e = omega arith
 number-some TooShort e = omega arith
 number-some NotLabelled e = omega arith
 
-pub accepted_of : (v : Verdict) → verdict_number v ≡ 0 → v ≡ Accepted
-accepted_of Accepted e = refl
-accepted_of (Refused why) e = absurd (number-some why e)
+pub accepted_of : (v : Result ⊤ Refusal) → verdict_number v ≡ 0 → v ≡ Ok tt
+accepted_of (Ok tt) e = refl
+accepted_of (Err why) e = absurd (number-some why e)
 
 -- no test held where the call is accepted
 pub record Passed (many other_size short : Bool) : Type 0 where
@@ -33,16 +33,16 @@ pub record Passed (many other_size short : Bool) : Type 0 where
   pub sized : other_size ≡ false
   pub enough : short ≡ false
 
-pub passed : (many other_size short : Bool) → verdict many other_size short ≡ Accepted → Passed many other_size short
+pub passed : (many other_size short : Bool) → verdict many other_size short ≡ Ok tt → Passed many other_size short
 passed many other_size short e =
-    let s₁ = cond_no many (Refused TooMany) _ Accepted (refused TooMany) e in
-    let s₂ = cond_no other_size (Refused OtherSize) _ Accepted (refused OtherSize) s₁.1 in
-    let s₃ = cond_no short (Refused TooShort) Accepted Accepted (refused TooShort) s₂.1 in
+    let s₁ = cond_no many (Err TooMany) _ (Ok tt) (refused TooMany) e in
+    let s₂ = cond_no other_size (Err OtherSize) _ (Ok tt) (refused OtherSize) s₁.1 in
+    let s₃ = cond_no short (Err TooShort) (Ok tt) (Ok tt) (refused TooShort) s₂.1 in
     record { few = s₁.0; sized = s₂.0; enough = s₃.0 }
 
-pub labelled-passed : (v : Verdict) (bad : Bool) → labelled_too v bad ≡ Accepted → (v ≡ Accepted) × (bad ≡ false)
-labelled-passed Accepted bad e = (refl, (cond_no bad (Refused NotLabelled) Accepted Accepted (refused NotLabelled) e).0)
-labelled-passed (Refused why) bad e = absurd (refused why e)
+pub labelled-passed : (v : Result ⊤ Refusal) (bad : Bool) → labelled_too v bad ≡ Ok tt → (v ≡ Ok tt) × (bad ≡ false)
+labelled-passed (Ok tt) bad e = (refl, (cond_no bad (Err NotLabelled) (Ok tt) (Ok tt) (refused NotLabelled) e).0)
+labelled-passed (Err why) bad e = absurd (refused why e)
 
 -- what the tests say
 pub few-sides : (boxes tracks : ℕ) → too_many boxes tracks ≡ false → (boxes ≤ 255) × (tracks ≤ 255)

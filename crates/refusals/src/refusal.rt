@@ -1,8 +1,9 @@
-// Why a call of a pairing routine is turned down: document 01's 31, 32 and 33, and 02's 34, in this order.
+// Why a call of a pairing routine is turned down: the reasons in the order in which they are looked for.
+// A call that may be turned down answers with a `Result` whose error is a `Refusal`.
 ghost use Rattle.std.specs.Prelude.{◌≡◌};
 ghost use Rattle.refusals.specs.Refusal as Spec;
 
-#[derive(Drop)]
+#[derive(Clone, Copy, Debug, PartialEq, Eq)]
 pub enum Refusal {
     // 31: more than 255 boxes or tracks
     TooMany,
@@ -14,34 +15,15 @@ pub enum Refusal {
     NotLabelled,
 }
 
-impl Refusal {
-    pub fn number(self) -> u32
-        ensures { result ≡ Spec.number self }
-    {
-        match self {
+impl From<Refusal> for u32 {
+    ghost from_gives = { λ why n. n ≡ Spec.number why };
+
+    fn from(why: Refusal) -> u32 {
+        match why {
             Refusal::TooMany => 31,
             Refusal::OtherSize => 32,
             Refusal::TooShort => 33,
             Refusal::NotLabelled => 34,
-        }
-    }
-}
-
-// What the lengths of a call's slices say before its work starts.
-#[derive(Drop)]
-pub enum Verdict {
-    Accepted,
-    Refused(Refusal),
-}
-
-impl Verdict {
-    // 0 where the call is accepted.
-    pub fn number(self) -> u32
-        ensures { result ≡ Spec.verdict_number self }
-    {
-        match self {
-            Verdict::Accepted => 0,
-            Verdict::Refused(why) => why.number(),
         }
     }
 }

@@ -1,25 +1,18 @@
-// A detection or a tracked box, object.rs: its rect, its score, and the id of its track if it has one.
+// A detection or a tracked box: its rect, its score, and the id of its track if it has one.
 ghost use Rattle.std.specs.Prelude.{◌≡◌};
 ghost use Rattle.strack.specs.Object.{new as new_object};
 
 use crate::rect::Rect;
 
-// The Rust's Option<usize>.
-#[derive(Clone, Copy)]
-pub enum TrackId {
-    Known(u64),
-    Unknown,
-}
-
 #[derive(Clone, Copy)]
 pub struct Object {
     pub rect: Rect,
     pub prob: f32,
-    pub id: TrackId,
+    pub id: Option<u64>,
 }
 
 impl Object {
-    pub fn new(rect: Rect, prob: f32, id: TrackId) -> Object
+    pub fn new(rect: Rect, prob: f32, id: Option<u64>) -> Object
         ensures { result ≡ new_object rect prob id }
     {
         Object { rect, prob, id }
@@ -61,7 +54,7 @@ impl Object {
         self.prob
     }
 
-    pub fn get_track_id(self) -> TrackId
+    pub fn get_track_id(self) -> Option<u64>
         ensures { result ≡ self.id }
     {
         self.id

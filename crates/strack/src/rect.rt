@@ -1,4 +1,4 @@
-// A box, rect.rs: left, top, width, height in f32. The order of the operations is the Rust's.
+// A box: left, top, width, height in f32. Each operation rounds once, in the order in which it is written here.
 ghost use Rattle.std.specs.Prelude.{◌≡◌};
 ghost use Rattle.strack.specs.Rect.{new as new_rect, area as area_of, shared_length, iou_over, calc_iou, get_xyah, get_xyxy, from_xyxy, width_of, centred, from_xyhr};
 
@@ -85,6 +85,7 @@ impl Rect {
         iw * ih / ua
     }
 
+    #[tactic(auto, unfolding(crate::specs::Rect::calc_iou))]
     pub fn calc_iou(self, other: Rect) -> f32
         ensures { result ≡ calc_iou self other }
     {
@@ -152,6 +153,7 @@ impl Rect {
 }
 
 // The width of a box of height h and aspect r: none where the aspect is zero or below.
+#[tactic(auto, unfolding(crate::specs::Rect::width_of))]
 pub(crate) fn width_of(h: f32, r: f32) -> f32
     ensures { result ≡ width_of h r }
 {

@@ -1,12 +1,12 @@
-// A track, strack.rs: the filter of a box with its id and counters, handed to predict or correct by
-// value and handed back; the conversions between corners and a measurement.
+// A track: the filter of a box with its id and counters, handed to predict or correct by value and
+// handed back; the conversions between corners and a measurement.
 ghost use Rattle.std.specs.Prelude.{◌≡◌, if◌then◌else◌, nat_lt};
 ghost use Rattle.strack.specs.Strack.{convert_bbox_to_z, convert_z_to_bbox, new as new_track, as_i32, exponent, confidence, get_confidence, update as update_track, track_answer, predict as predict_track, get_state, get_kf_state, get_kf_covariance_diag};
 
 use crate::rect::Xyxy;
-use strack_filter::kalman_filter::{DetectBox, FilterCorrection, KalmanFilter};
+use strack_filter::kalman_filter::{DetectBox, KalmanFilter};
 
-#[derive(Clone, Copy)]
+#[derive(Clone, Copy, Default)]
 pub struct KalmanBoxTracker {
     pub kf: KalmanFilter,
     pub id: u64,
@@ -16,13 +16,6 @@ pub struct KalmanBoxTracker {
     pub streak: u64,
     // frames since the start
     pub age: u64,
-}
-
-// A corrected track, or the track as it was where the filter refuses.
-#[derive(Clone, Copy)]
-pub enum TrackCorrection {
-    Corrected(KalmanBoxTracker),
-    Refused(KalmanBoxTracker),
 }
 
 pub fn convert_bbox_to_z(bbox: Xyxy) -> DetectBox
@@ -50,25 +43,23 @@ pub fn convert_z_to_bbox(z: DetectBox) -> Xyxy
     }
 }
 
-// The Rust's `as i32`: the 32 lowest bits of n, the highest of them the sign.
+// The 32 lowest bits of n, the highest of them the sign.
+#[tactic(auto, unfolding(crate::specs::Strack::as_i32))]
 fn as_i32(n: u64) -> i32
     ensures { result ≡ as_i32 n }
 {
-    let low = n % 0x1_0000_0000;
-    if low < 0x8000_0000 {
-        low as i32
-    } else {
-        -1 - ((0xffff_ffff - low) as i32)
-    }
+    ((n % 0x1_0000_0000) as u32).cast_signed()
 }
 
+#[tactic(auto, unfolding(crate::specs::Strack::exponent))]
 fn exponent(age: u64, since: u64) -> u64
     ensures { result ≡ exponent age since }
 {
     if age < 7 {
-        return 7 - age;
+        7 - age
+    } else {
+        since.wrapping_sub(1)
     }
-    std::num::wrapping_add_u64(since, 0xffff_ffff_ffff_ffff)
 }
 
 // get_confidence of a track with these counters.
@@ -86,6 +77,7 @@ fn kept_streak(since: u64, streak: u64) -> u64
 }
 
 impl KalmanBoxTracker {
+    #[tactic(auto, unfolding(crate::specs::Strack::new))]
     pub fn new(bbox: Xyxy, id: u64) -> KalmanBoxTracker
         ensures { result ≡ new_track bbox id }
     {
@@ -128,34 +120,33 @@ impl KalmanBoxTracker {
         confidence(self.age, self.since, coef)
     }
 
-    // The Rust's update; the score that it takes besides is not used there.
-    pub fn correct(self, bbox: Xyxy) -> TrackCorrection
+    // A corrected track, or the track as it was where the filter refuses.
+    pub fn correct(self, bbox: Xyxy) -> Result<KalmanBoxTracker, KalmanBoxTracker>
         ensures { track_answer result ≡ update_track self bbox }
     {
-        let FilterCorrection::Corrected(kf) = self.kf.update(convert_bbox_to_z(bbox)) else {
-            return TrackCorrection::Refused(self);
-        };
-        TrackCorrection::Corrected(KalmanBoxTracker {
+        let kf = self.kf.update(convert_bbox_to_z(bbox)).map_err(|_| self)?;
+        Ok(KalmanBoxTracker {
             kf,
-            id: self.id,
             since: 0,
-            streak: std::num::wrapping_add_u64(self.streak, 1),
-            age: self.age,
+            streak: self.streak.wrapping_add(1),
+            ..self
         })
     }
 
+    #[tactic(auto, unfolding(crate::specs::Strack::predict))]
     pub fn predict(self) -> KalmanBoxTracker
         ensures { result ≡ predict_track self }
     {
         KalmanBoxTracker {
             kf: self.kf.predict(),
-            id: self.id,
-            since: std::num::wrapping_add_u64(self.since, 1),
+            since: self.since.wrapping_add(1),
             streak: kept_streak(self.since, self.streak),
-            age: std::num::wrapping_add_u64(self.age, 1),
+            age: self.age.wrapping_add(1),
+            ..self
         }
     }
 
+    #[tactic(auto, unfolding(crate::specs::Strack::get_state))]
     pub fn get_state(self) -> Xyxy
         ensures { result ≡ get_state self }
     {
@@ -175,6 +166,7 @@ impl KalmanBoxTracker {
     }
 
     // The variances of the four positions.
+    // Kept: a closure for the field would need a clause for each of the four, where this names them.
     pub fn get_kf_covariance_diag(self) -> DetectBox
         ensures { result ≡ get_kf_covariance_diag self }
     {

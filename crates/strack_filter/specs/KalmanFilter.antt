@@ -1,14 +1,10 @@
--- The filter. A pair is document 01's, "The filter, pair by pair", letter by letter: R is the noise, A, B, C, D are a, b, c, d. Over it `KalmanFilter` of kalman_filter.rs, lines 58-154, is the four pairs x, y, h, r.
-use Rattle.std.specs.Prelude.{ℕ, Bool, cond, ◌&&◌, Float}
+-- The filter. A pair is a position p, a speed v and their covariances a, b, c, d; R is the noise of what is measured, A is a. Over it a `KalmanFilter` is the four pairs x, y, h, r.
+use Rattle.std.specs.Prelude.{ℕ, Bool, cond, ◌&&◌, Float, Result, Ok, Err}
 use Rattle.std.specs.Float.Ieee.Positive.{positive}
 use Rattle.floats.specs.Root.{root}
 use Rattle.strack_filter.specs.declared.kalman_filter.Pair.{Pair}
 use Rattle.strack_filter.specs.declared.kalman_filter.DetectBox.{DetectBox}
 use Rattle.strack_filter.specs.declared.kalman_filter.KalmanFilter.{KalmanFilter}
-use Rattle.strack_filter.specs.declared.kalman_filter.PairCorrection.{PairCorrection}
-use Rattle.strack_filter.specs.declared.kalman_filter.PairCorrection.TheVariants as pair
-use Rattle.strack_filter.specs.declared.kalman_filter.FilterCorrection.{FilterCorrection}
-use Rattle.strack_filter.specs.declared.kalman_filter.FilterCorrection.TheVariants as filter
 use Rattle.floats.specs.Single.{◌⊕◌, ◌⊖◌, ◌⊗◌, ◌⊘◌, plus_zero, one, ten, ten_thousand, hundredth}
 
 -- ---- a pair
@@ -54,10 +50,10 @@ unfoldable pub correct_pair : Pair → Float → Float → ℕ × Pair
 unfolding corrected
 correct_pair s z R = cond (correctable s R) (0, corrected s z R) (12, s)
 
--- what an answer says: document 01's number, 0 where it is accepted, and the pair handed back
-abbrev pub pair_answer : PairCorrection → ℕ × Pair
-pair_answer (pair.Corrected s) = (0, s)
-pair_answer (pair.Refused s) = (12, s)
+-- what an answer says: the number of a refusal, 0 where it is accepted, and the pair handed back
+abbrev pub pair_answer : Result Pair Pair → ℕ × Pair
+pair_answer (Ok s) = (0, s)
+pair_answer (Err s) = (12, s)
 
 -- ---- the four pairs, with noise 1, 1, 10, 0.01
 
@@ -95,6 +91,6 @@ unfoldable pub update : KalmanFilter → DetectBox → ℕ × KalmanFilter
 unfolding updatable
 update k z = cond (updatable k) (0, updated k z) (12, k)
 
-abbrev pub filter_answer : FilterCorrection → ℕ × KalmanFilter
-filter_answer (filter.Corrected k) = (0, k)
-filter_answer (filter.Refused k) = (12, k)
+abbrev pub filter_answer : Result KalmanFilter KalmanFilter → ℕ × KalmanFilter
+filter_answer (Ok k) = (0, k)
+filter_answer (Err k) = (12, k)

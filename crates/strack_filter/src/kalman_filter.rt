@@ -1,5 +1,5 @@
-// The filter, kalman_filter.rs: its 8 by 8 matrices are four pairs, x, y, h and r, each a position
-// and a speed with their four covariances. Each operation rounds once, in document 01's order.
+// The filter: its 8 by 8 matrices are four pairs, x, y, h and r, each a position and a speed with
+// their four covariances. Each operation rounds once, in the order in which it is written here.
 ghost use Rattle.std.specs.Prelude.{◌≡◌};
 ghost use Rattle.std.specs.Float.Ieee.Positive.{positive as ieee_positive};
 ghost use Rattle.strack_filter.specs.KalmanFilter.{start_pair, predict_pair, correctable, gained, corrected, correct_pair, pair_answer, new as new_filter, predict as predict_filter, updatable, updated, update as update_filter, filter_answer};
@@ -24,7 +24,7 @@ pub struct DetectBox {
 
 // Position p, speed v, covariances (rows: a b, c d).
 #[repr(C)]
-#[derive(Clone, Copy)]
+#[derive(Clone, Copy, Default)]
 pub struct Pair {
     pub p: f32,
     pub v: f32,
@@ -34,14 +34,7 @@ pub struct Pair {
     pub d: f32,
 }
 
-// A corrected pair, or the pair as it was where A + R is not positive and finite.
-#[derive(Clone, Copy)]
-pub enum PairCorrection {
-    Corrected(Pair),
-    Refused(Pair),
-}
-
-#[derive(Clone, Copy)]
+#[derive(Clone, Copy, Default)]
 pub struct KalmanFilter {
     pub x: Pair,
     pub y: Pair,
@@ -49,18 +42,11 @@ pub struct KalmanFilter {
     pub r: Pair,
 }
 
-// A corrected filter, or the filter as it was where one of its pairs is refused.
-#[derive(Clone, Copy)]
-pub enum FilterCorrection {
-    Corrected(KalmanFilter),
-    Refused(KalmanFilter),
-}
-
 // Above zero and finite.
 fn positive(s: f32) -> bool
     ensures { result ≡ ieee_positive s }
 {
-    (s > 0.0) & (s - s == 0.0)
+    (s > 0.0) & s.is_finite()
 }
 
 impl Pair {
@@ -115,19 +101,23 @@ impl Pair {
         }
     }
 
+    #[tactic(auto, unfolding(crate::specs::KalmanFilter::corrected))]
     fn corrected(self, z: f32, noise: f32) -> Pair
         ensures { result ≡ corrected self z noise }
     {
         self.gained(z, noise, floats::sqrt(self.a + noise))
     }
 
-    pub fn correct(self, z: f32, noise: f32) -> PairCorrection
+    // A corrected pair, or the pair as it was where A + R is not positive and finite.
+    #[tactic(auto, unfolding(crate::specs::KalmanFilter::correct_pair))]
+    pub fn correct(self, z: f32, noise: f32) -> Result<Pair, Pair>
         ensures { pair_answer result ≡ correct_pair self z noise }
     {
         if self.correctable(noise) {
-            return PairCorrection::Corrected(self.corrected(z, noise));
+            Ok(self.corrected(z, noise))
+        } else {
+            Err(self)
         }
-        PairCorrection::Refused(self)
     }
 }
 
@@ -155,6 +145,7 @@ impl KalmanFilter {
     }
 
     // Whether a correction of all four pairs is accepted.
+    #[tactic(auto, unfolding(crate::specs::KalmanFilter::updatable))]
     pub fn correctable(self) -> bool
         ensures { result ≡ updatable self }
     {
@@ -175,12 +166,15 @@ impl KalmanFilter {
         }
     }
 
-    pub fn update(self, z: DetectBox) -> FilterCorrection
+    // A corrected filter, or the filter as it was where one of its pairs is refused.
+    #[tactic(auto, unfolding(crate::specs::KalmanFilter::update))]
+    pub fn update(self, z: DetectBox) -> Result<KalmanFilter, KalmanFilter>
         ensures { filter_answer result ≡ update_filter self z }
     {
         if self.correctable() {
-            return FilterCorrection::Corrected(self.updated(z));
+            Ok(self.updated(z))
+        } else {
+            Err(self)
         }
-        FilterCorrection::Refused(self)
     }
 }

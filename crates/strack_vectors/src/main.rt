@@ -42,20 +42,64 @@ fn box_of(a: u64, b: u64, c: u64, d: u64) -> Xyxy {
     }
 }
 
-fn correct(t: KalmanBoxTracker, bbox: Xyxy) -> KalmanBoxTracker {
-    match t.correct(bbox) {
-        strack::strack::TrackCorrection::Corrected(after) => after,
-        strack::strack::TrackCorrection::Refused(before) => before,
-    }
+// What a record asks for.
+#[derive(Drop)]
+enum Record {
+    Start {
+        id: u64,
+        bbox: Xyxy,
+    },
+    Step {
+        corrections: u64,
+        first: Xyxy,
+        second: Xyxy,
+    },
+    Whole,
+    Counters {
+        since: u64,
+        age: u64,
+    },
+    Boxes(Xyxy, Xyxy),
 }
 
-fn stepped(t: KalmanBoxTracker, w: &[u64; 9]) -> KalmanBoxTracker {
+// The next record; None where the input ends, or is no record.
+// Kept: the number of a kind is the input's, and is told here alone.
+fn next_record() -> Option<Record> {
+    let kind = input::word_or(5);
+    if kind > 4 {
+        return None;
+    }
+    let mut w = [0u64; 9];
+    input::words(9, 0, &mut w);
+    let a = box_of(w[1], w[2], w[3], w[4]);
+    let b = box_of(w[5], w[6], w[7], w[8]);
+    Some(match kind {
+        0 => Record::Start { id: w[0], bbox: a },
+        1 => Record::Step {
+            corrections: w[0],
+            first: a,
+            second: b,
+        },
+        2 => Record::Whole,
+        3 => Record::Counters {
+            since: whole(w[1], w[2]),
+            age: whole(w[3], w[4]),
+        },
+        _ => Record::Boxes(a, b),
+    })
+}
+
+// A refused correction hands the track back as it was.
+fn correct(t: KalmanBoxTracker, bbox: Xyxy) -> KalmanBoxTracker {
+    t.correct(bbox).unwrap_or_else(|before| before)
+}
+
+fn stepped(t: KalmanBoxTracker, corrections: u64, first: Xyxy, second: Xyxy) -> KalmanBoxTracker {
     let later = t.predict();
-    let first = box_of(w[1], w[2], w[3], w[4]);
-    match w[0] {
+    match corrections {
         0 => later,
         1 => correct(later, first),
-        _ => correct(correct(later, first), box_of(w[5], w[6], w[7], w[8])),
+        _ => correct(correct(later, first), second),
     }
 }
 
@@ -95,9 +139,7 @@ fn edge(since: u64, age: u64) -> Line {
     counters(predicted, correct(later, unit))
 }
 
-fn boxes(w: &[u64; 9]) -> Line {
-    let a = box_of(w[1], w[2], w[3], w[4]);
-    let b = box_of(w[5], w[6], w[7], w[8]);
+fn boxes(a: Xyxy, b: Xyxy) -> Line {
     let r = Rect::new(a.x1, a.y1, a.x2, a.y2);
     let iou = r.calc_iou(Rect::new(b.x1, b.y1, b.x2, b.y2));
     let z = r.get_xyah();
@@ -118,34 +160,30 @@ fn boxes(w: &[u64; 9]) -> Line {
     corners(rects.floats(&[m.x, m.y, m.h, m.r]), from_z)
 }
 
-fn moved(kind: u32, t: KalmanBoxTracker, w: &[u64; 9]) -> KalmanBoxTracker {
-    match kind {
-        0 => KalmanBoxTracker::new(box_of(w[1], w[2], w[3], w[4]), w[0]),
-        1 => stepped(t, w),
-        _ => t,
-    }
-}
-
-fn line(kind: u32, t: KalmanBoxTracker, w: &[u64; 9]) -> Line {
-    match kind {
-        0 | 1 => report(t),
-        2 => state(t),
-        3 => edge(whole(w[1], w[2]), whole(w[3], w[4])),
-        _ => boxes(w),
-    }
-}
-
-// A proved loop has to end, and nothing says that the input does: the count is one that no run uses up.
+// A proved loop has to end, and nothing says that the input does: the range is one that no run uses up.
 fn main() {
     let mut track = KalmanBoxTracker::new(Rect::new(0.0, 0.0, 1.0, 1.0).get_xyxy(), 0);
-    let mut kind = input::word_or(5);
-    let mut records = u64::MAX;
-    while records > 0 && kind < 5 {
-        let mut w = [0u64; 9];
-        input::words(9, 0, &mut w);
-        track = moved(kind, track, &w);
-        line(kind, track, &w).print();
-        kind = input::word_or(5);
-        records -= 1;
+    for _ in 0..u64::MAX {
+        let Some(record) = next_record() else {
+            return;
+        };
+        let line = match record {
+            Record::Start { id, bbox } => {
+                track = KalmanBoxTracker::new(bbox, id);
+                report(track)
+            }
+            Record::Step {
+                corrections,
+                first,
+                second,
+            } => {
+                track = stepped(track, corrections, first, second);
+                report(track)
+            }
+            Record::Whole => state(track),
+            Record::Counters { since, age } => edge(since, age),
+            Record::Boxes(a, b) => boxes(a, b),
+        };
+        line.print();
     }
 }

@@ -5,6 +5,8 @@ use mathlib.Core.List.{List, [], ◌∷◌, ◌++◌, foldl, append_assoc, appen
 use Prim.Native.Nat.{ℕ}
 use Rattle.records.specs.declared.box_record.BoxRecord.{BoxRecord}
 use Rattle.trackbox_stream.specs.declared.rules.OpenFrame.{OpenFrame}
+use Rattle.std.proofs.Common.{Result}
+use Rattle.trackbox_stream.specs.declared.rules.Fault.{Fault}
 use Rattle.trackbox_stream.specs.declared.rules.Next.{Next}
 use Rattle.trackbox_stream.specs.Rules.{nth_after, judged, closed, start}
 use Rattle.trackbox_stream.specs.Stream.{Event}
@@ -13,7 +15,7 @@ use Rattle.trackbox_stream.specs.Feeding.{Run, run_with, told, told_at_end, boxe
 unfoldable pub ahead : OpenFrame → List BoxRecord → List BoxRecord → ℕ → List Event
 ahead st bs [] rest = told_at_end st bs (closed (nth_after st.records) rest)
 ahead st bs (r ∷ rs) rest =
-    let n : Next = judged st (nth_after st.records) r.frame in
+    let n : Result Next Fault = judged st (nth_after st.records) r.frame in
     told st bs n ++ cond (goes_on n) (ahead (state_then st n) (boxes_then bs r n) rs rest) []
 
 stays : (rs : List BoxRecord) (log : List Event) (st : OpenFrame) (bs : List BoxRecord) → foldl feed (run_with log false st bs) rs ≡ run_with log false st bs
@@ -28,7 +30,7 @@ from-here (r ∷ rs) rest log st bs =
     by_going (goes_on n) (from-here rs rest (log ++ told st bs n) (state_then st n) (boxes_then bs r n))
     ∙ append_assoc log (told st bs n) (cond (goes_on n) (ahead (state_then st n) (boxes_then bs r n) rs rest) [])
   where
-    n : Next
+    n : Result Next Fault
     n = judged st (nth_after st.records) r.frame
 
     by_going : (b : Bool) → finish (foldl feed (run_with (log ++ told st bs n) true (state_then st n) (boxes_then bs r n)) rs) rest ≡ (log ++ told st bs n) ++ ahead (state_then st n) (boxes_then bs r n) rs rest

@@ -14,53 +14,54 @@ use Rattle.records_line.specs.Line.{line, line_bytes, refused_line}
 use Rattle.boost_tracker_settings.specs.declared.settings.Settings.{Settings}
 use Rattle.boost_tracker_verdict.specs.declared.sound.State.{State}
 use Rattle.boost_tracker_verdict.specs.declared.refusal.Refusal.{Refusal}
-use Rattle.boost_tracker_verdict.specs.declared.refusal.Verdict.{Verdict}
-use Rattle.boost_tracker_verdict.specs.declared.refusal.Verdict.TheVariants.{Accepted, Refused}
+use Rattle.std.specs.Bool.{⊤}
+use Rattle.std.proofs.Common.{Result, Ok, Err}
 use Rattle.boost_tracker_emission.specs.Emission.{emitted_inds, record_at, bytes_at}
 use Rattle.boost_tracker_table.specs.Lent.{Call, call_with}
 use Rattle.boost_tracker_verdict.specs.Boxes.{Boxes}
-use Rattle.boost_tracker_verdict.specs.Verdict.{number, answer, where_accepted}
+use Rattle.boost_tracker_verdict.specs.Verdict.{number, where_accepted}
 use Rattle.boost_tracker.specs.declared.frame.UpdateAnswer.{UpdateAnswer}
 use Rattle.boost_tracker_definition.specs.Update.{Stages, state_after}
 use Rattle.boost_tracker.specs.Frame.{refused_answer, accepted_answer, Memory, memory_after, worked, labels_of, updated}
-use Rattle.trackbox_feed.specs.declared.frame.Worked.TheVariants.{Done, Stopped}
 use Rattle.trackbox_feed.specs.Trackbox.{settings, records_of}
-use Rattle.trackbox_feed.specs.Feed.{Lent, work_with, has_room, work_by, verdict_of, work}
+use Rattle.trackbox_feed.specs.Feed.{Lent, done, work_with, has_room, work_by, verdict_of, work}
 use Rattle.trackbox_feed.specs.Private.{Put, lines_in}
 use Rattle.trackbox_feed.proofs.OutputLaws.{inds-many, lines_are}
 
-accepts : (why : Refusal) → Accepted ≡ Refused why → ⊥
-accepts why q = let z : ◌≡◌ {A = ℕ} 0 1 = cc in omega arith
+accepts : (why : Refusal) → ◌≡◌ {A = Result ⊤ Refusal} (Ok tt) (Err why) → ⊥
+accepts why q = cc
 
 -- what `update` answers and leaves by a verdict v
-abbrev By : Verdict → State → List ℕ → Stages → Memory → UpdateAnswer → Memory → Type 0
+abbrev By : Result ⊤ Refusal → State → List ℕ → Stages → Memory → UpdateAnswer → Memory → Type 0
 By v state all g m r m' = call_with r m' ≡ where_accepted v (call_with (accepted_answer g) (memory_after settings all g m)) (call_with (refused_answer v state) m)
 
 module _ (state : State) (all : List ℕ) (g : Stages) (m : Memory) {m' : Memory} {r : UpdateAnswer} (nth : ℕ) {text text' : List ℕ} {n : ℕ} where
-  by_refusal : {k : ℕ} (v : Verdict) → By v state all g m r m' → (why : Refusal) → r.verdict ≡ Refused why → k ≡ (answer r.verdict).0
-      → Put 0 (refused_line k nth) text n text' → work_with (Stopped n) (record { memory = m'; text = text' }) ≡ work_by v nth all g (record { memory = m; text = text })
-  by_refusal Accepted l why q e p = absurd (accepts why (sym (ap (λ (c : Call UpdateAnswer Memory). c.answer.verdict) l) ∙ q))
-  by_refusal {k} (Refused other) l why q e p =
-      let same : k ≡ number other = e ∙ ap (λ (c : Call UpdateAnswer Memory). (answer c.answer.verdict).0) l in
+  by_refusal : {k : ℕ} (v : Result ⊤ Refusal) → By v state all g m r m' → (why : Refusal) → r.verdict ≡ Err why → k ≡ number why
+      → Put 0 (refused_line k nth) text n text' → work_with (Err n) (record { memory = m'; text = text' }) ≡ work_by v nth all g (record { memory = m; text = text })
+  by_refusal (Ok v) l why q e p = absurd (accepts why (sym (ap (λ (c : Call UpdateAnswer Memory). c.answer.verdict) l) ∙ q))
+  by_refusal {k} (Err other) l why q e p =
+      let both : ◌≡◌ {A = Result ⊤ Refusal} (Err why) (Err other) = sym q ∙ ap (λ (c : Call UpdateAnswer Memory). c.answer.verdict) l in
+      let one : why ≡ other = cc in
+      let same : k ≡ number other = e ∙ ap number one in
       let left : m' ≡ m = ap (λ (c : Call UpdateAnswer Memory). c.lent) l in
       rw (left, p.cells, p.ends ∙ zero-add (length (refused_line k nth)), same)
 
-  by_acceptance : {k : ℕ} {st : State} (v : Verdict) → By v state all g m r m' → r.verdict ≡ Accepted → k ≡ r.emitted → st ≡ r.state
+  by_acceptance : {k : ℕ} {st : State} (v : Result ⊤ Refusal) → By v state all g m r m' → r.verdict ≡ Ok tt → k ≡ r.emitted → st ≡ r.state
       → lines_in (memory_after settings all g m).output (length g.output) ≡ rows line (records_of all g)
-      → Put 0 (lines_in m'.output k) text n text' → work_with (Done st n) (record { memory = m'; text = text' }) ≡ work_by v nth all g (record { memory = m; text = text })
-  by_acceptance {k} {st} Accepted l q e d lines p =
+      → Put 0 (lines_in m'.output k) text n text' → work_with (done st n) (record { memory = m'; text = text' }) ≡ work_by v nth all g (record { memory = m; text = text })
+  by_acceptance {k} {st} (Ok v) l q e d lines p =
       let count : k ≡ length g.output = e ∙ ap (λ (c : Call UpdateAnswer Memory). c.answer.emitted) l in
       let then : st ≡ state_after g = d ∙ ap (λ (c : Call UpdateAnswer Memory). c.answer.state) l in
       let left : m' ≡ memory_after settings all g m = ap (λ (c : Call UpdateAnswer Memory). c.lent) l in
       let said : lines_in m'.output k ≡ rows line (records_of all g) = rw (left, count) lines in
       rw (left, p.cells, p.ends ∙ zero-add (length (lines_in m'.output k)), said, then)
-  by_acceptance (Refused other) l q e d lines p = absurd (accepts other (sym q ∙ ap (λ (c : Call UpdateAnswer Memory). c.answer.verdict) l))
+  by_acceptance (Err other) l q e d lines p = absurd (accepts other (sym q ∙ ap (λ (c : Call UpdateAnswer Memory). c.answer.verdict) l))
 
 -- which verdict it was
-judged-so : (v : Verdict) (state : State) (all : List ℕ) (g : Stages) (m : Memory)
+judged-so : (v : Result ⊤ Refusal) (state : State) (all : List ℕ) (g : Stages) (m : Memory)
     → (where_accepted v (call_with (accepted_answer g) (memory_after settings all g m)) (call_with (refused_answer v state) m)).answer.verdict ≡ v
-judged-so Accepted state all g m = refl
-judged-so (Refused why) state all g m = refl
+judged-so (Ok v) state all g m = refl
+judged-so (Err why) state all g m = refl
 
 module _ (s : Settings) (is : s ≡ settings) (state : State) (nth : ℕ) (b : Boxes) (m : Memory) (text : List ℕ) {r : UpdateAnswer} {m' : Memory} (given : call_with r m' ≡ updated s state b m) where
   abbrev g : Stages
@@ -77,20 +78,20 @@ module _ (s : Settings) (is : s ≡ settings) (state : State) (nth : ℕ) (b : B
   unfolding updated
   ends = subst (λ (s : Settings). call_with r m' ≡ updated s state b m) is given
 
-  pub work-refused : {k n : ℕ} {text' : List ℕ} {why : Refusal} → r.verdict ≡ Refused why → k ≡ (answer r.verdict).0 → Put 0 (refused_line k nth) text n text'
-      → work_with (Stopped n) (record { memory = m'; text = text' }) ≡ work state nth b lent
+  pub work-refused : {k n : ℕ} {text' : List ℕ} {why : Refusal} → r.verdict ≡ Err why → k ≡ number why → Put 0 (refused_line k nth) text n text'
+      → work_with (Err n) (record { memory = m'; text = text' }) ≡ work state nth b lent
   unfolding work
   work-refused {why = why} q e p = by_refusal state all g m nth (verdict_of state b lent) ends why q e p
 
-  module _ (q : r.verdict ≡ Accepted) where
-    verdict-is : verdict_of state b lent ≡ Accepted
+  module _ (q : r.verdict ≡ Ok tt) where
+    verdict-is : verdict_of state b lent ≡ Ok tt
     verdict-is = sym (ap (λ (c : Call UpdateAnswer Memory). c.answer.verdict) ends ∙ judged-so (verdict_of state b lent) state all g m) ∙ q
 
-    leaves : By Accepted state all g m r m'
-    leaves = subst (λ (v : Verdict). By v state all g m r m') verdict-is ends
+    leaves : By (Ok tt) state all g m r m'
+    leaves = subst (λ (v : Result ⊤ Refusal). By v state all g m r m') verdict-is ends
 
     pub work-accepted : {k n : ℕ} {text' : List ℕ} {st : State} → k ≡ r.emitted → st ≡ r.state → Put 0 (lines_in m'.output k) text n text'
-        → work_with (Done st n) (record { memory = m'; text = text' }) ≡ work state nth b lent
+        → work_with (done st n) (record { memory = m'; text = text' }) ≡ work state nth b lent
     unfolding work
     work-accepted e d p =
         by_acceptance state all g m nth (verdict_of state b lent) ends q e d

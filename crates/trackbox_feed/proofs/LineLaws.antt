@@ -11,11 +11,8 @@ use borrow.Rule.Slice.PartMut.{put_mid, mid_len}
 use Rattle.laws.specs.Splice.{splice, length-splice, splice-splice}
 use Rattle.laws.specs.Tab.{tab, tab-more}
 use Rattle.laws.specs.Laid.{rows, rows_append}
+use Rattle.std.proofs.Common.{Option, Some, None}
 use Rattle.records.specs.declared.track_record.TrackRecord.{TrackRecord}
-use Rattle.records.specs.declared.track_record.TrackAnswer.{TrackAnswer}
-use Rattle.records.specs.declared.track_record.TrackAnswer.TheVariants as track-answer
-use Rattle.records.specs.declared.Written.{Written}
-use Rattle.records.specs.declared.Written.TheVariants as written
 use Rattle.records.specs.TrackRecord.{track_bytes, track_at}
 use Rattle.records.specs.Written.{WritesText}
 use Rattle.records_line.specs.Line.{line, line_bytes, refused_line}
@@ -27,12 +24,9 @@ use Rattle.trackbox_feed.specs.Private.{Put, read_at, lines_in}
 
 -- ---- one text
 
-abbrev count_of : Written → ℕ
-count_of (written.Bytes n) = n
-count_of written.Short = 0
-
-not_short : (n : ℕ) → written.Bytes n ≡ written.Short → ⊥
-not_short n q = let z : ◌≡◌ {A = ℕ} 0 1 = cc in omega arith
+abbrev count_of : Option ℕ → ℕ
+count_of (Some n) = n
+count_of None = 0
 
 -- what lies behind a text at the front of the first k elements lies behind it in the whole
 behind : (xs d : List ℕ) (k : ℕ) → length xs ≤ length (take k d) → (xs ++ drop (length xs) (take k d)) ++ drop k d ≡ xs ++ drop (length xs) d
@@ -45,20 +39,17 @@ module _ (l xs : List ℕ) (at k : ℕ) (room : at + k ≤ length l) (fits : len
   part-long = mid_len at (at + k) l room ∙ (omega arith)
 
   -- a text of at most k bytes that was written into a part of k bytes
-  module _ (w : Written) (vs : List ℕ) (e : WritesText xs (take (at + k - at) (drop at l)) w vs) where
-    fitted : (w ≡ written.Bytes (length xs)) × (vs ≡ splice (take (at + k - at) (drop at l)) 0 xs)
+  module _ (w : Option ℕ) (vs : List ℕ) (e : WritesText xs (take (at + k - at) (drop at l)) w vs) where
+    pub fitted : (w ≡ Some (length xs)) × (vs ≡ splice (take (at + k - at) (drop at l)) 0 xs)
     fitted = let n = part-long in text_fitted xs (take (at + k - at) (drop at l)) w vs e (omega arith)
 
-    pub never_short : w ≡ written.Short → ⊥
-    never_short q = not_short (length xs) (sym fitted.0 ∙ q)
-
-    pub count-is : {n : ℕ} → w ≡ written.Bytes n → n ≡ length xs
+    pub count-is : {n : ℕ} → w ≡ Some n → n ≡ length xs
     count-is q = ap count_of (sym q ∙ fitted.0)
 
     front-is : vs ≡ xs ++ drop (length xs) (take (at + k - at) (drop at l))
     front-is = subst (λ (m : ℕ). vs ≡ xs ++ drop m (take (at + k - at) (drop at l))) (zero-add (length xs)) fitted.1
 
-    pub put-within : {n : ℕ} → w ≡ written.Bytes n → Put at xs l (at + n) (put_mid at (at + k - at) l vs)
+    pub put-within : {n : ℕ} → w ≡ Some n → Put at xs l (at + n) (put_mid at (at + k - at) l vs)
     put-within q =
         let n = part-long in
         let short : length xs ≤ length (take (at + k - at) (drop at l)) = omega arith in
@@ -77,34 +68,28 @@ pub refused-room : (number nth : ℕ) → length (refused_line number nth) ≤ l
 refused-room number nth = let h = refused-most number nth in omega arith
 
 -- a refusal at the front of the text
-pub refused-put : (number nth : ℕ) (l : List ℕ) (w : Written) (out : List ℕ) {n : ℕ} → line_bytes ≤ length l → WritesText (refused_line number nth) l w out → w ≡ written.Bytes n → Put 0 (refused_line number nth) l n out
+pub refused-put : (number nth : ℕ) (l : List ℕ) (w : Option ℕ) (out : List ℕ) {n : ℕ} → line_bytes ≤ length l → WritesText (refused_line number nth) l w out → w ≡ Some n → Put 0 (refused_line number nth) l n out
 refused-put number nth l w out h e q =
     let r = refused-room number nth in
     let f = text_fitted (refused_line number nth) l w out e (omega arith) in
     record { ends = ap count_of (sym q ∙ f.0) ∙ sym (zero-add (length (refused_line number nth))); cells = f.1 }
 
-pub refused-fits : (number nth : ℕ) (l : List ℕ) (w : Written) (out : List ℕ) → line_bytes ≤ length l → WritesText (refused_line number nth) l w out → w ≡ written.Short → ⊥
-refused-fits number nth l w out h e q =
-    let r = refused-room number nth in
-    let f = text_fitted (refused_line number nth) l w out e (omega arith) in
-    not_short (length (refused_line number nth)) (sym f.0 ∙ q)
+pub refused-fitted : (number nth : ℕ) (l : List ℕ) (w : Option ℕ) (out : List ℕ) → line_bytes ≤ length l → WritesText (refused_line number nth) l w out → w ≡ Some (length (refused_line number nth))
+refused-fitted number nth l w out h e = let r = refused-room number nth in (text_fitted (refused_line number nth) l w out e (omega (arith, h, r))).0
 
 -- ---- a record of the output
 
-abbrev record_in : TrackAnswer → TrackRecord → TrackRecord
-record_in (track-answer.Read t) d = t
-record_in track-answer.Short d = d
+abbrev record_in : Option TrackRecord → TrackRecord → TrackRecord
+record_in (Some t) d = t
+record_in None d = d
 
 module _ (out : List ℕ) (k : ℕ) (h : k < length out / track_bytes) where
-  is_read : track_at out k ≡ track-answer.Read (read_at out k)
+  pub is_read : track_at out k ≡ Some (read_at out k)
   unfolding track_at read_at
   is_read = rw (lt-ltb k (length out / track_bytes) h)
 
-  pub read_is : {t : TrackRecord} (a : TrackAnswer) → a ≡ track_at out k → a ≡ track-answer.Read t → t ≡ read_at out k
-  read_is {t} a e q = ap (λ (x : TrackAnswer). record_in x t) (sym q ∙ e ∙ is_read)
-
-  pub read_never_short : (a : TrackAnswer) → a ≡ track_at out k → a ≡ track-answer.Short → ⊥
-  read_never_short a e q = let r = sym (sym q ∙ e ∙ is_read) in let z : ◌≡◌ {A = ℕ} 0 1 = cc in omega arith
+  pub read_is : {t : TrackRecord} (a : Option TrackRecord) → a ≡ track_at out k → a ≡ Some t → t ≡ read_at out k
+  read_is {t} a e q = ap (λ (x : Option TrackRecord). record_in x t) (sym q ∙ e ∙ is_read)
 
 -- ---- the lines of the records before k
 

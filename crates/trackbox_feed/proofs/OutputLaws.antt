@@ -27,7 +27,7 @@ use Rattle.records.proofs.Laws.{TrackFits, track_decode}
 use Rattle.records.proofs.Laws.Lengths.{length-track}
 use Rattle.boost_tracker_settings.specs.declared.settings.Settings.{Settings}
 use Rattle.boost_tracker_verdict.specs.declared.sound.State.{State}
-use Rattle.boost_tracker_verdict.specs.declared.refusal.Verdict.TheVariants.{Accepted}
+use Rattle.std.proofs.Common.{Ok}
 use Rattle.boost_tracker_table.specs.Table.{Track, blank}
 use Rattle.boost_tracker_table.specs.Lent.{Table, places_of, tracks_in, labels_in, holding}
 use Rattle.boost_tracker_emission.specs.Emission.{emits, emitted, emitted_inds, record_at, bytes_at}
@@ -83,7 +83,7 @@ record-fits frame t label h k b = record {
 
 -- ---- the ids and the labels
 
-module _ (s : Settings) (state : State) (t : Table) (boxes : Boxes) (out work64 work32 : ℕ) (e : verdict s state t boxes out work64 work32 ≡ Accepted) where
+module _ (s : Settings) (state : State) (t : Table) (boxes : Boxes) (out work64 work32 : ℕ) (e : verdict s state t boxes out work64 work32 ≡ Ok tt) where
   abbrev held : List Track
   held = tracks_in t state.count
 

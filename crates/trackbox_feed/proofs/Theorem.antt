@@ -21,8 +21,9 @@ use Rattle.records_line.specs.Line.{line, line_bytes, refused_line}
 use Rattle.records.specs.TrackRecord.{track_bytes}
 use Rattle.records.proofs.Laws.{text-written}
 use Rattle.boost_tracker_verdict.specs.declared.sound.State.{State}
-use Rattle.boost_tracker_verdict.specs.declared.refusal.Verdict.{Verdict}
-use Rattle.boost_tracker_verdict.specs.declared.refusal.Verdict.TheVariants.{Accepted, Refused}
+use Rattle.boost_tracker_verdict.specs.declared.refusal.Refusal.{Refusal}
+use Rattle.std.specs.Bool.{⊤}
+use Rattle.std.proofs.Common.{Result, Ok, Err}
 use Rattle.boost_tracker_verdict.specs.Boxes.{Boxes, boxes_with}
 use Rattle.boost_tracker_verdict.specs.Verdict.{number, boxes_in, of_room, verdict}
 use Rattle.boost_tracker_definition.specs.Update.{Stages, state_after}
@@ -30,9 +31,9 @@ use Rattle.boost_tracker.specs.Frame as Answers
 use Rattle.boost_tracker_table.specs.Lent.{table_with}
 use Rattle.trackbox_stream.specs.declared.rules.OpenFrame.{OpenFrame}
 use Rattle.trackbox_stream.specs.declared.rules.Refusal.TheVariants.{RecordIncomplete}
+use Rattle.trackbox_stream.specs.declared.rules.Fault.{Fault}
 use Rattle.trackbox_stream.specs.declared.rules.Next.{Next}
-use Rattle.trackbox_stream.specs.declared.rules.Ending.TheVariants as ending
-use Rattle.trackbox_stream.specs.Rules.{nth_after, judged, closed, opened, grown}
+use Rattle.trackbox_stream.specs.Rules.{fault, nth_after, judged, closed, opened, grown}
 use Rattle.trackbox_stream.specs.Rules as rules
 use Rattle.trackbox_stream.specs.Boxes.{box_floats, frame_floats, frame_labels}
 use Rattle.trackbox_stream.specs.Stream.{Event, work, refuse, refused, accepted, box_records, printing}
@@ -41,10 +42,9 @@ use Rattle.trackbox_stream.specs.Feeding as feeding
 use Rattle.trackbox_stream.proofs.Theorem.{trackbox-fed}
 use Rattle.trackbox_stream.proofs.Cases.{Judges, back, far, later, full, same, judges}
 use Rattle.trackbox_stream.proofs.Held.{held_first, held_more, held-front, label_first, label_more, label_front}
-use Rattle.trackbox_feed.specs.declared.frame.Worked.TheVariants.{Done, Stopped}
 use Rattle.trackbox_feed.specs.declared.feed.Feed.{Feed}
 use Rattle.trackbox_feed.specs.Trackbox.{settings, lent_boxes, lent_box_labels, lent_output, lent_doubles, lent_singles, Tracker, tracker_with, stages, labels_of, records_of, frame_then, frame, begin, frame_boxes, updated, trackbox}
-use Rattle.trackbox_feed.specs.Feed.{Lent, lent_with, has_room, Work, work_with, work_by, verdict_of, feed_with, start, Call, call_with, stored_then, front, work_front, work_open, again_then, later_then, boxes_then, last_then, refuses, later_call, next_then, end_then, call_then, taken, finished}
+use Rattle.trackbox_feed.specs.Feed.{Lent, lent_with, has_room, Work, done, work_with, work_by, verdict_of, feed_with, start, Call, call_with, stored_then, front, work_front, work_open, again_then, later_then, boxes_then, last_then, refuses, later_call, next_then, end_then, call_then, taken, finished}
 use Rattle.trackbox_feed.specs.Feed as calls
 use Rattle.trackbox_feed.specs.Laws.{Memory, Scratch, square, Serves, Sized, lent_of, memory_of, Follows, SaidOf, Prints, memory, PrintedIs}
 use Rattle.trackbox_feed.proofs.Texts.{text_of, text-refuse, text_stops, text-goes, text-none, empties, text-empties, text-one-empty, text-no-empty}
@@ -58,8 +58,8 @@ tracker_of state m = tracker_with state (table_with m.floats m.counters m.labels
 
 data Frames (t : Tracker) (bs : List BoxRecord) (nth : ℕ) (text : List ℕ) (w : Work) : Type 0 where
   goes : (t' : Tracker) (rs : List TrackRecord) (o : List ℕ) (d s : List Float) → updated t bs ≡ accepted t' rs
-      → w ≡ work_with (Done t'.state (length (rows line rs))) (lent_with t'.table.floats t'.table.counters t'.table.labels o d s (splice text 0 (rows line rs))) → Frames t bs nth text w
-  stops : (n : ℕ) (l : Lent) → updated t bs ≡ refused n → w ≡ work_with (Stopped (length (refused_line n nth))) l → l.text ≡ splice text 0 (refused_line n nth) → Frames t bs nth text w
+      → w ≡ work_with (done t'.state (length (rows line rs))) (lent_with t'.table.floats t'.table.counters t'.table.labels o d s (splice text 0 (rows line rs))) → Frames t bs nth text w
+  stops : (n : ℕ) (l : Lent) → updated t bs ≡ refused n → w ≡ work_with (Err (length (refused_line n nth))) l → l.text ≡ splice text 0 (refused_line n nth) → Frames t bs nth text w
 
 module _ (t : Tracker) (bs : List BoxRecord) (nth : ℕ) (o : List ℕ) (d s : List Float) (text : List ℕ) where
   abbrev staged : Stages
@@ -68,12 +68,12 @@ module _ (t : Tracker) (bs : List BoxRecord) (nth : ℕ) (o : List ℕ) (d s : L
   abbrev labelled : List ℕ
   labelled = labels_of t (frame_boxes bs) staged
 
-  by_verdict : (v : Verdict) → updated t bs ≡ frame_then v t labelled staged
+  by_verdict : (v : Result ⊤ Refusal) → updated t bs ≡ frame_then v t labelled staged
       → Frames t bs nth text (work_by v nth labelled staged (lent_with t.table.floats t.table.counters t.table.labels o d s text))
-  by_verdict Accepted u =
+  by_verdict (Ok tt) u =
       let after : Answers.Memory = Answers.memory_after settings labelled staged (Answers.memory_with t.table.floats t.table.counters t.table.labels o d s) in
       goes (tracker_with (state_after staged) after.table) (records_of labelled staged) after.output after.work64 after.work32 u refl
-  by_verdict (Refused why) u = stops (number why) (lent_with t.table.floats t.table.counters t.table.labels o d s (splice text 0 (refused_line (number why) nth))) u refl refl
+  by_verdict (Err why) u = stops (number why) (lent_with t.table.floats t.table.counters t.table.labels o d s (splice text 0 (refused_line (number why) nth))) u refl refl
 
 -- a test whether n are enough says the same of `most`
 serves_as : (need less most n : ℕ) → Serves need most n → less ≤ need → ltb n less ≡ ltb most less
@@ -214,7 +214,7 @@ module _ (feed : Feed) (m : Memory) (s : Scratch) (z : Sized feed s) where
   unfolding work_open work_front
   open_is bs h e = rw e (ap (λ (x : Boxes). calls.work feed.table feed.opened.first x (lent_of m s)) (front-is feed m bs h))
 
-  none_is : eqb feed.opened.frame 0 ≡ true → work_open feed m.boxes (lent_of m s) ≡ work_with (Done feed.table 0) (lent_of m s)
+  none_is : eqb feed.opened.frame 0 ≡ true → work_open feed m.boxes (lent_of m s) ≡ work_with (done feed.table 0) (lent_of m s)
   unfolding work_open
   none_is e = rw e
 
@@ -283,7 +283,7 @@ module _ (feed : Feed) (m : Memory) (s : Scratch) (z : Sized feed s) (bs : List 
     abbrev comes : List Event
     comes = empty_work k f op.first ++ es op
 
-    none-later : opening ≡ work_with (Done feed.table 0) (lent_of m s) → SaidOf (after opening) out Took More → out ≡ text_of tracker comes
+    none-later : opening ≡ work_with (done feed.table 0) (lent_of m s) → SaidOf (after opening) out Took More → out ≡ text_of tracker comes
     none-later q x =
         let then : Feed = feed_with op k feed.table in
         let y : Follows [] out (Took then (memory_of (lent_of m s) (stored_then r 0 m.boxes))) = subst (λ (w : Work). SaidOf (after w) out Took More) q x in
@@ -320,7 +320,7 @@ module _ (feed : Feed) (m : Memory) (s : Scratch) (z : Sized feed s) (bs : List 
   abbrev last : Work → Call
   last w = call_with (last_then w.answer) w.lent m.boxes
 
-  none_last : opening ≡ work_with (Done feed.table 0) (lent_of m s) → SaidOf (last opening) out Took More → out ≡ text_of tracker []
+  none_last : opening ≡ work_with (done feed.table 0) (lent_of m s) → SaidOf (last opening) out Took More → out ≡ text_of tracker []
   none_last q x = let y : out ≡ [] = subst (λ (w : Work). SaidOf (last w) out Took More) q x in y ∙ sym (text-none tracker)
 
   some-last : Frames tracker bs st.first s.text opening → SaidOf (last opening) out Took More → out ≡ text_of tracker (work st.frame bs st.first ∷ [])
@@ -350,10 +350,10 @@ module _ (feed : Feed) (m : Memory) (s : Scratch) (z : Sized feed s) (bs : List 
   -- ---- a record
 
   module _ (r : BoxRecord) (rs : List BoxRecord) (rest : ℕ) (nth : ℕ) (ih : (bs' : List BoxRecord) → Tells Took (λ (x : Feed). ahead x.opened bs' rs rest) bs') where
-    abbrev to_come : Next → List Event
+    abbrev to_come : Result Next Fault → List Event
     to_come n = told st bs n ++ cond (goes_on n) (ahead (state_then st n) (feeding.boxes_then bs r n) rs rest) []
 
-    told-next : (n : Next) → Judges st nth r.frame n → SaidOf (next_then feed r n (lent_of m s) m.boxes) out Took More → out ≡ text_of tracker (to_come n)
+    told-next : (n : Result Next Fault) → Judges st nth r.frame n → SaidOf (next_then feed r n (lent_of m s) m.boxes) out Took More → out ≡ text_of tracker (to_come n)
     told-next n (back t) x = told-refused 42 nth [] x
     told-next n (far a b) x = told-refused 43 nth [] x
     told-next n (full a q b) x = told-refused 44 nth [] x
@@ -376,8 +376,8 @@ module _ (feed : Feed) (m : Memory) (s : Scratch) (z : Sized feed s) (bs : List 
   unfolding closed
   told-end rest nth x = by_rest (ltb 0 rest) x
     where
-      by_rest : (b : Bool) → SaidOf (end_then feed (cond b (ending.Refused RecordIncomplete nth) ending.Clean) (lent_of m s) m.boxes) out Took More
-          → out ≡ text_of tracker (told_at_end st bs (cond b (ending.Refused RecordIncomplete nth) ending.Clean))
+      by_rest : (b : Bool) → SaidOf (end_then feed (cond b (Err (fault RecordIncomplete nth)) (Ok tt)) (lent_of m s) m.boxes) out Took More
+          → out ≡ text_of tracker (told_at_end st bs (cond b (Err (fault RecordIncomplete nth)) (Ok tt)))
       by_rest true x = told-refused 41 nth [] x
       by_rest false x = told-last x
 
@@ -391,7 +391,7 @@ finished-is : (feed : Feed) (rest : ℕ) (l : Lent) (boxes : Boxes) → finished
 unfolding finished
 finished-is feed rest l boxes = refl
 
-ahead_more : (st : OpenFrame) (bs : List BoxRecord) (r : BoxRecord) (rs : List BoxRecord) (rest : ℕ) (n : Next) → n ≡ judged st (nth_after st.records) r.frame
+ahead_more : (st : OpenFrame) (bs : List BoxRecord) (r : BoxRecord) (rs : List BoxRecord) (rest : ℕ) (n : Result Next Fault) → n ≡ judged st (nth_after st.records) r.frame
     → told st bs n ++ cond (goes_on n) (ahead (state_then st n) (feeding.boxes_then bs r n) rs rest) [] ≡ ahead st bs (r ∷ rs) rest
 unfolding ahead
 ahead_more st bs r rs rest n e = rw e
@@ -416,7 +416,7 @@ module _ (feed : Feed) (m : Memory) (s : Scratch) (z : Sized feed s) (bs : List 
       → SaidOf (call_then feed (lent_of m s) m.boxes (next_then feed r (judged feed.opened (nth_after feed.opened.records) r.frame) (lent_of m s) m.boxes)) out Took More
       → (k : ℕ) → feed.empty ≡ k → Goal (r ∷ rs) k
   one-call r rs took more x zero e =
-      let n : Next = judged feed.opened (nth_after feed.opened.records) r.frame in
+      let n : Result Next Fault = judged feed.opened (nth_after feed.opened.records) r.frame in
       told-next feed m s z bs h out Took More r rs rest (nth_after feed.opened.records) took n (judges feed.opened (nth_after feed.opened.records) r.frame)
       (subst (λ (c : Call). SaidOf c out Took More) (at_once feed m s z _ e) x)
       ∙ ap (text_of (tracker_of feed.table m)) (ahead_more feed.opened bs r rs rest n refl)

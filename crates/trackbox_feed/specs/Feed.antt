@@ -1,14 +1,13 @@
 -- One call of `take`: what it answers, and each cell of lent memory. A call works at most one frame, so that its text has an end that is known before.
 -- A record of a later frame ends the open one. Empty frames between the two are worked by the calls that follow; they name the record that came after them, which is the open frame's first.
-use Rattle.std.specs.Prelude.{Bool, cond, List, ℕ, ◌-◌, ◌*◌, ◌/◌, min, eqb, ltb, length, take, Float}
+use Rattle.std.specs.Prelude.{Bool, cond, List, ℕ, ◌-◌, ◌*◌, ◌/◌, min, eqb, ltb, length, take, Float, ⊤, Result, Ok, Err}
 use Rattle.laws.specs.Splice.{splice}
 use Rattle.laws.specs.Laid.{rows}
 use Rattle.records.specs.declared.box_record.BoxRecord.{BoxRecord}
 use Rattle.records.specs.BoxRecord.{box_values}
 use Rattle.records.specs.TrackRecord.{track_bytes}
 use Rattle.records_line.specs.Line.{line, line_bytes, refused_line}
-use Rattle.boost_tracker_verdict.specs.declared.refusal.Verdict.{Verdict}
-use Rattle.boost_tracker_verdict.specs.declared.refusal.Verdict.TheVariants.{Accepted, Refused}
+use Rattle.boost_tracker_verdict.specs.declared.refusal.Refusal.{Refusal}
 use Rattle.boost_tracker_verdict.specs.declared.sound.State.{State}
 use Rattle.boost_tracker_verdict.specs.Boxes.{Boxes, boxes_with}
 use Rattle.boost_tracker_verdict.specs.Verdict.{number, where_accepted}
@@ -18,13 +17,11 @@ use Rattle.boost_tracker.specs.Frame as tracker
 use Rattle.trackbox_stream.specs.declared.rules.OpenFrame.{OpenFrame}
 use Rattle.trackbox_stream.specs.declared.rules.Next.{Next}
 use Rattle.trackbox_stream.specs.declared.rules.Next.TheVariants as next
-use Rattle.trackbox_stream.specs.declared.rules.Ending.{Ending}
-use Rattle.trackbox_stream.specs.declared.rules.Ending.TheVariants as ending
+use Rattle.trackbox_stream.specs.declared.rules.Fault.{Fault}
 use Rattle.trackbox_stream.specs.Rules.{nth_after, judged, closed}
 use Rattle.trackbox_stream.specs.Rules as rules
 use Rattle.trackbox_stream.specs.Boxes.{held_then, label_then}
 use Rattle.trackbox_feed.specs.declared.frame.Worked.{Worked}
-use Rattle.trackbox_feed.specs.declared.frame.Worked.TheVariants.{Done, Stopped}
 use Rattle.trackbox_feed.specs.declared.feed.Feed.{Feed}
 use Rattle.trackbox_feed.specs.declared.feed.Item.{Item}
 use Rattle.trackbox_feed.specs.declared.feed.Item.TheVariants as item
@@ -53,26 +50,30 @@ has_room output text = ltb (output / track_bytes) (text / line_bytes)
 -- ---- a frame
 
 pub record Work : Type 0 where
-  pub answer : Worked
+  pub answer : Result Worked ℕ
   pub lent : Lent
 
-abbrev pub work_with : Worked → Lent → Work
+-- a frame that was worked
+abbrev pub done : State → ℕ → Result Worked ℕ
+done table text = Ok (record { table = table; text = text })
+
+abbrev pub work_with : Result Worked ℕ → Lent → Work
 work_with answer lent = record { answer = answer; lent = lent }
 
 -- the lines of a frame, by the labels of all trackers, or that it is turned down
-abbrev pub says : Verdict → ℕ → List ℕ → Stages → List ℕ
-says Accepted nth all g = rows line (records_of all g)
-says (Refused why) nth all g = refused_line (number why) nth
+abbrev pub says : Result ⊤ Refusal → ℕ → List ℕ → Stages → List ℕ
+says (Ok _) nth all g = rows line (records_of all g)
+says (Err why) nth all g = refused_line (number why) nth
 
-abbrev pub answers : Verdict → ℕ → List ℕ → Stages → Worked
-answers Accepted nth all g = Done (state_after g) (length (says Accepted nth all g))
-answers (Refused why) nth all g = Stopped (length (says (Refused why) nth all g))
+abbrev pub answers : Result ⊤ Refusal → ℕ → List ℕ → Stages → Result Worked ℕ
+answers (Ok v) nth all g = done (state_after g) (length (says (Ok _) nth all g))
+answers (Err why) nth all g = Err (length (says (Err why) nth all g))
 
-abbrev pub work_by : Verdict → ℕ → List ℕ → Stages → Lent → Work
+abbrev pub work_by : Result ⊤ Refusal → ℕ → List ℕ → Stages → Lent → Work
 work_by v nth all g l =
     work_with (answers v nth all g) (record { memory = where_accepted v (memory_after settings all g l.memory) l.memory; text = splice l.text 0 (says v nth all g) })
 
-abbrev pub verdict_of : State → Boxes → Lent → Verdict
+abbrev pub verdict_of : State → Boxes → Lent → Result ⊤ Refusal
 verdict_of state objects l = tracker.verdict_of settings state objects l.memory
 
 -- a frame of these objects; where it is turned down it names record nth
@@ -114,25 +115,25 @@ work_front feed k boxes l = work feed.table feed.opened.first (front k boxes) l
 
 -- the open frame, if there is one
 unfoldable pub work_open : Feed → Boxes → Lent → Work
-work_open feed boxes l = cond (eqb feed.opened.frame 0) (work_with (Done feed.table 0) l) (work_front feed feed.opened.boxes boxes l)
+work_open feed boxes l = cond (eqb feed.opened.frame 0) (work_with (done feed.table 0) l) (work_front feed feed.opened.boxes boxes l)
 
 -- an empty frame was worked
-abbrev pub again_then : Feed → Worked → Fed
-again_then feed (Done table n) = Again (feed_with feed.opened (feed.empty - 1) table) n
-again_then feed (Stopped n) = Ended n
+abbrev pub again_then : Feed → Result Worked ℕ → Fed
+again_then feed (Ok w) = Again (feed_with feed.opened (feed.empty - 1) w.table) w.text
+again_then feed (Err n) = Ended n
 
 -- the open frame was worked before a record of a later one
-abbrev pub later_then : ℕ → OpenFrame → Worked → Fed
-later_then empty opened (Done table n) = Taken (feed_with opened empty table) n
-later_then empty opened (Stopped n) = Ended n
+abbrev pub later_then : ℕ → OpenFrame → Result Worked ℕ → Fed
+later_then empty opened (Ok w) = Taken (feed_with opened empty w.table) w.text
+later_then empty opened (Err n) = Ended n
 
-abbrev pub boxes_then : BoxRecord → Worked → Boxes → Boxes
-boxes_then r (Done table n) boxes = stored_then r 0 boxes
-boxes_then r (Stopped n) boxes = boxes
+abbrev pub boxes_then : BoxRecord → Result Worked ℕ → Boxes → Boxes
+boxes_then r (Ok w) boxes = stored_then r 0 boxes
+boxes_then r (Err n) boxes = boxes
 
-abbrev pub last_then : Worked → Fed
-last_then (Done table n) = Ended n
-last_then (Stopped n) = Ended n
+abbrev pub last_then : Result Worked ℕ → Fed
+last_then (Ok w) = Ended w.text
+last_then (Err n) = Ended n
 
 abbrev pub refuses : ℕ → ℕ → Lent → Boxes → Call
 refuses why nth l boxes = call_with (Ended (length (refused_line why nth))) (printed (refused_line why nth) l) boxes
@@ -142,14 +143,14 @@ later_call feed r empty opened l boxes =
     let w : Work = work_open feed boxes l in
     call_with (later_then empty opened w.answer) w.lent (boxes_then r w.answer boxes)
 
-abbrev pub next_then : Feed → BoxRecord → Next → Lent → Boxes → Call
-next_then feed r (next.Same opened) l boxes = call_with (Taken (feed_with opened 0 feed.table) 0) l (stored_then r feed.opened.boxes boxes)
-next_then feed r (next.Later empty opened) l boxes = later_call feed r empty opened l boxes
-next_then feed r (next.Refused why nth) l boxes = refuses (rules.number why) nth l boxes
+abbrev pub next_then : Feed → BoxRecord → Result Next Fault → Lent → Boxes → Call
+next_then feed r (Ok (next.Same opened)) l boxes = call_with (Taken (feed_with opened 0 feed.table) 0) l (stored_then r feed.opened.boxes boxes)
+next_then feed r (Ok (next.Later empty opened)) l boxes = later_call feed r empty opened l boxes
+next_then feed r (Err fault) l boxes = refuses (rules.number fault.why) fault.nth l boxes
 
-abbrev pub end_then : Feed → Ending → Lent → Boxes → Call
-end_then feed ending.Clean l boxes = call_with (last_then (work_open feed boxes l).answer) (work_open feed boxes l).lent boxes
-end_then feed (ending.Refused why nth) l boxes = refuses (rules.number why) nth l boxes
+abbrev pub end_then : Feed → Result ⊤ Fault → Lent → Boxes → Call
+end_then feed (Ok _) l boxes = call_with (last_then (work_open feed boxes l).answer) (work_open feed boxes l).lent boxes
+end_then feed (Err fault) l boxes = refuses (rules.number fault.why) fault.nth l boxes
 
 -- an empty frame comes before everything else
 abbrev pub call_then : Feed → Lent → Boxes → Call → Call

@@ -1,7 +1,6 @@
--- The program trackbox. Document 01, "Records and limits": it "reads box records on standard input, lends for 64 tracks and 64 boxes, uses `det_thresh` 0.6, `iou_threshold` 0.3, `max_age` 30,
--- `min_hits` 3 and otherwise `BoostTracker::new`'s settings". What it does with its records is Stream's; here is what a frame gives, by the tracker's definition.
--- Document 02, N2: its box records have a label, and it prints none.
-use Rattle.std.specs.Prelude.{◌≡◌, refl, false, List, map, ℕ, ◌*◌, replicate, Float}
+-- The program trackbox. It reads box records on standard input, lends for 64 tracks and 64 boxes, and uses `det_thresh` 0.6, `iou_threshold` 0.3, `max_age` 30, `min_hits` 3 and otherwise the
+-- settings of `new`. What it does with its records is Stream's; here is what a frame gives, by the tracker's definition. Its box records have a label, and it prints none.
+use Rattle.std.specs.Prelude.{◌≡◌, refl, false, List, map, ℕ, ◌*◌, replicate, Float, ⊤, Result, Ok, Err}
 use Rattle.std.specs.Float.{binary32}
 use Rattle.std.specs.Float.Ieee.{of_bits, round}
 use Rattle.floats.specs.Single.{plus_zero}
@@ -9,8 +8,7 @@ use Rattle.records.specs.declared.box_record.BoxRecord.{BoxRecord}
 use Rattle.records.specs.declared.track_record.TrackRecord.{TrackRecord}
 use Rattle.records.specs.BoxRecord.{box_values}
 use Rattle.records.specs.TrackRecord.{track_bytes}
-use Rattle.boost_tracker_verdict.specs.declared.refusal.Verdict.{Verdict}
-use Rattle.boost_tracker_verdict.specs.declared.refusal.Verdict.TheVariants.{Accepted, Refused}
+use Rattle.boost_tracker_verdict.specs.declared.refusal.Refusal.{Refusal}
 use Rattle.boost_tracker_settings.specs.declared.settings.Settings.{Settings}
 use Rattle.boost_tracker_verdict.specs.declared.sound.State.{State}
 use Rattle.boost_tracker_settings.specs.Settings.{new}
@@ -64,9 +62,9 @@ labels_of t objects g = labels_started objects.labels (labels_in t.table t.state
 abbrev pub records_of : List ℕ → Stages → List TrackRecord
 records_of all g = map (record_at g.frame_count g.started.trackers all) (emitted_inds g.frame_count settings.min_hits g.started.trackers)
 
-abbrev pub frame_then : Verdict → Tracker → List ℕ → Stages → Frame Tracker
-frame_then Accepted t all g = accepted (tracker_with (state_after g) (holding g.retained (labels_retained settings all g) t.table)) (records_of all g)
-frame_then (Refused why) t all g = refused (number why)
+abbrev pub frame_then : Result ⊤ Refusal → Tracker → List ℕ → Stages → Frame Tracker
+frame_then (Ok _) t all g = accepted (tracker_with (state_after g) (holding g.retained (labels_retained settings all g) t.table)) (records_of all g)
+frame_then (Err why) t all g = refused (number why)
 
 -- of so many bytes lent for the output, and so many f64 and f32 for work
 unfoldable pub frame : ℕ → ℕ → ℕ → Tracker → Boxes → Frame Tracker

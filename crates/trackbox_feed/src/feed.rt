@@ -5,14 +5,15 @@ ghost use Rattle.trackbox_feed.specs.Feed as Spec;
 ghost use Rattle.trackbox_feed.specs.Feed.{lent_with, call_with};
 ghost use Rattle.trackbox_feed.specs.Private as Private;
 
-use crate::frame::{Task, Worked, work_task};
+use crate::frame::{Worked, work_task};
+use crate::lines::put_refused;
 use boost_tracker::State;
 use records::{BoxRecord, TRACK_BYTES};
 use records_line::LINE_BYTES;
-use trackbox_stream::{Ending, Next, OpenFrame, Refusal, close, hold, hold_label, judge};
+use trackbox_stream::{Fault, Next, OpenFrame, close, hold, hold_label, judge};
 
 // What is known between two calls.
-#[derive(Clone, Copy)]
+#[derive(Clone, Copy, Debug, PartialEq, Eq)]
 pub struct Feed {
     pub opened: OpenFrame,
     // empty frames before the open one that are not worked yet
@@ -22,6 +23,7 @@ pub struct Feed {
 }
 
 // What is handed on.
+// Kept: the end is no error, and has a count of its own.
 #[derive(Clone, Copy)]
 pub enum Item {
     Record(BoxRecord),
@@ -29,7 +31,9 @@ pub enum Item {
     End(usize),
 }
 
-#[derive(Clone, Copy)]
+// What a call answers.
+// Kept: four answers, two of which carry what is known then.
+#[derive(Clone, Copy, Debug, PartialEq)]
 pub enum Fed {
     // The record is taken. What is known then, and how many bytes of text there are.
     Taken(Feed, usize),
@@ -41,7 +45,8 @@ pub enum Fed {
     Short,
 }
 
-// What a call does.
+// What a call does, unless the stream is turned down.
+// Kept: four ways to go on; the refusal is the error beside them.
 #[derive(Clone, Copy)]
 pub enum Turn {
     // An empty frame that comes before is worked.
@@ -52,8 +57,6 @@ pub enum Turn {
     Later(BoxRecord, u32, OpenFrame),
     // The open frame is worked, and nothing follows.
     Last,
-    // The stream is turned down, with the record that is named.
-    Refused(Refusal, u64),
 }
 
 pub fn start() -> Feed
@@ -78,51 +81,43 @@ fn of_next(r: BoxRecord, next: Next) -> Turn
     match next {
         Next::Same(opened) => Turn::Same(r, opened),
         Next::Later(empty, opened) => Turn::Later(r, empty, opened),
-        Next::Refused(why, nth) => Turn::Refused(why, nth),
     }
 }
 
-fn of_ending(ending: Ending) -> Turn
-    ensures { result ≡ Private.of_ending ending }
-{
-    match ending {
-        Ending::Clean => Turn::Last,
-        Ending::Refused(why, nth) => Turn::Refused(why, nth),
-    }
-}
-
-fn turn_of(feed: Feed, item: Item) -> Turn
+fn turn_of(feed: Feed, item: Item) -> Result<Turn, Fault>
     ensures { result ≡ Private.turn_of feed item }
 {
     if 0 < feed.empty {
-        return Turn::Empty;
+        return Ok(Turn::Empty);
     }
-    let opened = feed.opened;
     match item {
-        Item::Record(r) => of_next(r, judge(opened, r.frame)),
-        Item::End(rest) => of_ending(close(opened, rest)),
+        Item::Record(r) => Ok(of_next(r, judge(feed.opened, r.frame)?)),
+        Item::End(rest) => {
+            close(feed.opened, rest)?;
+            Ok(Turn::Last)
+        }
     }
 }
 
-// The open frame, if there is one.
-fn open_task(opened: OpenFrame) -> Task
+// How many boxes the open frame has, if there is one.
+fn open_task(opened: OpenFrame) -> Option<usize>
     ensures { result ≡ Private.open_task opened }
 {
     if opened.frame == 0 {
-        return Task::Nothing;
+        return None;
     }
-    Task::Frame(opened.boxes)
+    Some(opened.boxes)
 }
 
-fn task_of(opened: OpenFrame, turn: Turn) -> Task
+// How many boxes the frame has that the turn works, if it works one.
+fn task_of(opened: OpenFrame, turn: Turn) -> Option<usize>
     ensures { result ≡ Private.task_of opened turn }
 {
     match turn {
-        Turn::Empty => Task::Frame(0),
-        Turn::Same(_, _) => Task::Nothing,
+        Turn::Empty => Some(0),
+        Turn::Same(_, _) => None,
         Turn::Later(_, _, _) => open_task(opened),
         Turn::Last => open_task(opened),
-        Turn::Refused(why, nth) => Task::Refused(why, nth),
     }
 }
 
@@ -137,16 +132,21 @@ fn store(r: BoxRecord, k: usize, boxes: &mut [f32], box_labels: &mut [u8])
 }
 
 // Stores the first box of a new frame, unless the frame before it was turned down.
-fn hold_first(r: BoxRecord, worked: Worked, boxes: &mut [f32], box_labels: &mut [u8])
+fn hold_first(r: BoxRecord, worked: Result<Worked, usize>, boxes: &mut [f32], box_labels: &mut [u8])
     ensures { boxes_with boxes.new box_labels.new ≡ Spec.boxes_then r worked (boxes_with boxes.old box_labels.old) }
 {
-    let Worked::Done(_, _) = worked else {
-        return;
-    };
-    store(r, 0, boxes, box_labels);
+    if worked.is_ok() {
+        store(r, 0, boxes, box_labels);
+    }
 }
 
-fn hold_turn(held: usize, turn: Turn, worked: Worked, boxes: &mut [f32], box_labels: &mut [u8])
+fn hold_turn(
+    held: usize,
+    turn: Turn,
+    worked: Result<Worked, usize>,
+    boxes: &mut [f32],
+    box_labels: &mut [u8],
+)
     ensures { boxes_with boxes.new box_labels.new ≡ Private.boxes_turn held turn worked (boxes_with boxes.old box_labels.old) }
 {
     match turn {
@@ -154,63 +154,51 @@ fn hold_turn(held: usize, turn: Turn, worked: Worked, boxes: &mut [f32], box_lab
         Turn::Same(r, _) => store(r, held, boxes, box_labels),
         Turn::Later(r, _, _) => hold_first(r, worked, boxes, box_labels),
         Turn::Last => {}
-        Turn::Refused(_, _) => {}
     }
 }
 
-fn one_less(n: u32) -> u32
-    ensures { result ≡ n - 1 }
-{
-    if n == 0 {
-        return 0;
-    }
-    n - 1
-}
-
-fn again(feed: Feed, worked: Worked) -> Fed
+fn again(feed: Feed, worked: Result<Worked, usize>) -> Fed
     ensures { result ≡ Spec.again_then feed worked }
 {
-    let opened = feed.opened;
-    let empty = one_less(feed.empty);
     match worked {
-        Worked::Done(table, n) => Fed::Again(
+        Ok(done) => Fed::Again(
             Feed {
-                opened,
-                empty,
-                table,
+                opened: feed.opened,
+                empty: feed.empty.saturating_sub(1),
+                table: done.table,
             },
-            n,
+            done.text,
         ),
-        Worked::Stopped(n) => Fed::Ended(n),
+        Err(n) => Fed::Ended(n),
     }
 }
 
-fn later(empty: u32, opened: OpenFrame, worked: Worked) -> Fed
+fn later(empty: u32, opened: OpenFrame, worked: Result<Worked, usize>) -> Fed
     ensures { result ≡ Spec.later_then empty opened worked }
 {
     match worked {
-        Worked::Done(table, n) => Fed::Taken(
+        Ok(done) => Fed::Taken(
             Feed {
                 opened,
                 empty,
-                table,
+                table: done.table,
             },
-            n,
+            done.text,
         ),
-        Worked::Stopped(n) => Fed::Ended(n),
+        Err(n) => Fed::Ended(n),
     }
 }
 
-fn ended(worked: Worked) -> Fed
+fn ended(worked: Result<Worked, usize>) -> Fed
     ensures { result ≡ Spec.last_then worked }
 {
     match worked {
-        Worked::Done(_, n) => Fed::Ended(n),
-        Worked::Stopped(n) => Fed::Ended(n),
+        Ok(done) => Fed::Ended(done.text),
+        Err(n) => Fed::Ended(n),
     }
 }
 
-fn answer(feed: Feed, turn: Turn, worked: Worked) -> Fed
+fn answer(feed: Feed, turn: Turn, worked: Result<Worked, usize>) -> Fed
     ensures { result ≡ Private.answer_turn feed turn worked }
 {
     match turn {
@@ -218,7 +206,6 @@ fn answer(feed: Feed, turn: Turn, worked: Worked) -> Fed
         Turn::Same(_, opened) => later(0, opened, worked),
         Turn::Later(_, empty, opened) => later(empty, opened, worked),
         Turn::Last => ended(worked),
-        Turn::Refused(_, _) => ended(worked),
     }
 }
 
@@ -245,7 +232,10 @@ pub fn take(
         return Fed::Short;
     }
     let opened = feed.opened;
-    let turn = turn_of(feed, item);
+    let turn = match turn_of(feed, item) {
+        Ok(turn) => turn,
+        Err(fault) => return Fed::Ended(put_refused(u64::from(fault.why), fault.nth, text)),
+    };
     let first = feed.opened.first;
     let worked = work_task(
         feed.table,

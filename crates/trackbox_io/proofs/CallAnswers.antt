@@ -14,11 +14,11 @@ use Rattle.records_line.specs.Line.{line_bytes}
 use Rattle.boost_tracker_verdict.specs.Boxes.{Boxes}
 use Rattle.trackbox_stream.specs.declared.rules.Next.{Next}
 use Rattle.trackbox_stream.specs.declared.rules.Next.TheVariants as next
-use Rattle.trackbox_stream.specs.declared.rules.Ending.{Ending}
-use Rattle.trackbox_stream.specs.declared.rules.Ending.TheVariants as ending
+use Rattle.trackbox_stream.specs.declared.rules.Fault.{Fault}
+use Rattle.std.specs.Bool.{⊤}
+use Rattle.std.proofs.Common.{Result, Ok, Err}
 use Rattle.trackbox_stream.specs.Rules.{nth_after, judged, closed}
 use Rattle.trackbox_feed.specs.declared.frame.Worked.{Worked}
-use Rattle.trackbox_feed.specs.declared.frame.Worked.TheVariants.{Done, Stopped}
 use Rattle.trackbox_feed.specs.declared.feed.Feed.{Feed}
 use Rattle.trackbox_feed.specs.declared.feed.Fed.{Fed}
 use Rattle.trackbox_feed.specs.declared.feed.Fed.TheVariants.{Taken, Again, Ended, Short}
@@ -45,30 +45,30 @@ module _ (feed : Feed) (l : Lent) (boxes : Boxes) (room : has_room (length l.mem
   one_less : ltb 0 feed.empty ≡ true → feed.empty ≡ suc (feed.empty - 1)
   one_less e = let h = ltb-true 0 feed.empty e in omega (arith, h)
 
-  again_ends : ltb 0 feed.empty ≡ true → (w : Worked) → AtEnd feed.empty (again_then feed w)
-  again_ends e (Done table n) = one_less e
-  again_ends e (Stopped n) = tt
+  again_ends : ltb 0 feed.empty ≡ true → (w : Result Worked ℕ) → AtEnd feed.empty (again_then feed w)
+  again_ends e (Ok w) = one_less e
+  again_ends e (Err n) = tt
 
-  again_records : ltb 0 feed.empty ≡ true → (w : Worked) → AtRecord feed.empty (again_then feed w)
-  again_records e (Done table n) = one_less e
-  again_records e (Stopped n) = tt
+  again_records : ltb 0 feed.empty ≡ true → (w : Result Worked ℕ) → AtRecord feed.empty (again_then feed w)
+  again_records e (Ok w) = one_less e
+  again_records e (Err n) = tt
 
-  last-ends : (w : Worked) → AtEnd feed.empty (last_then w)
-  last-ends (Done table n) = tt
-  last-ends (Stopped n) = tt
+  last-ends : (w : Result Worked ℕ) → AtEnd feed.empty (last_then w)
+  last-ends (Ok w) = tt
+  last-ends (Err n) = tt
 
-  later-records : (empty : ℕ) (opened : _) (w : Worked) → AtRecord feed.empty (later_then empty opened w)
-  later-records empty opened (Done table n) = tt
-  later-records empty opened (Stopped n) = tt
+  later-records : (empty : ℕ) (opened : _) (w : Result Worked ℕ) → AtRecord feed.empty (later_then empty opened w)
+  later-records empty opened (Ok w) = tt
+  later-records empty opened (Err n) = tt
 
-  ending_ends : (e : Ending) → AtEnd feed.empty (end_then feed e l boxes).answer
-  ending_ends ending.Clean = last-ends (work_open feed boxes l).answer
-  ending_ends (ending.Refused why nth) = tt
+  ending_ends : (e : Result ⊤ Fault) → AtEnd feed.empty (end_then feed e l boxes).answer
+  ending_ends (Ok _) = last-ends (work_open feed boxes l).answer
+  ending_ends (Err fault) = tt
 
-  next-records : (r : BoxRecord) (n : Next) → AtRecord feed.empty (next_then feed r n l boxes).answer
-  next-records r (next.Same opened) = tt
-  next-records r (next.Later empty opened) = later-records empty opened (work_open feed boxes l).answer
-  next-records r (next.Refused why nth) = tt
+  next-records : (r : BoxRecord) (n : Result Next Fault) → AtRecord feed.empty (next_then feed r n l boxes).answer
+  next-records r (Ok (next.Same opened)) = tt
+  next-records r (Ok (next.Later empty opened)) = later-records empty opened (work_open feed boxes l).answer
+  next-records r (Err fault) = tt
 
   abbrev emptied-call : Call
   emptied-call = call_with (again_then feed (work_front feed 0 boxes l).answer) (work_front feed 0 boxes l).lent boxes

@@ -16,8 +16,7 @@ use Rattle.trackbox_stream.specs.Stream.{box_records}
 use Rattle.trackbox_feed.specs.Trackbox.{lent_boxes, lent_box_labels}
 use Rattle.trackbox_feed.specs.Feed as calls
 use Rattle.trackbox_feed.specs.Laws.{Memory, Prints, memory}
-use Rattle.program_io.specs.declared.calls.Input.{Input}
-use Rattle.program_io.specs.declared.calls.Input.TheVariants.{Bytes, Failed}
+use Rattle.std.proofs.Common.{Option, Some, None}
 use Rattle.program_io.specs.Input.{Within}
 use Rattle.trackbox_progress.specs.declared.progress.Progress.{Progress}
 use Rattle.trackbox_progress.specs.Progress.{start, spent, stopped, cleared, emptied}
@@ -130,7 +129,7 @@ module _ (p : Progress) (a : Arrays) (after : List ℕ) (n : ℕ) (g : p.going �
   abbrev fresh : List ℕ
   fresh = take n after
 
-  bytes_along : (size : ℕ) → size ≡ input_bytes → Along (refilled p size (Bytes n)) (with_input after a)
+  bytes_along : (size : ℕ) → size ≡ input_bytes → Along (refilled p size (Some n)) (with_input after a)
   bytes_along size e = record {
     before = l.before ++ l.held;
     held = fresh;
@@ -158,9 +157,9 @@ module _ (p : Progress) (a : Arrays) (after : List ℕ) (n : ℕ) (g : p.going �
 pub fill_along : (p r : Progress) (a : Arrays) (after : List ℕ) → (p.going || p.failed) ≡ true → length a.input ≡ input_bytes → length after ≡ input_bytes → Along p a → Fills p r a.input after → Along r (with_input after a)
 fill_along p r a after ok z z' l f = subst (λ (q : Progress). Along q (with_input after a)) (sym f.so) (by_due (p.going && spent p) refl)
   where
-    by_input : (p.going && spent p) ≡ true → (i : Input) → Within (length a.input) i → Along (refilled p (length a.input) i) (with_input after a)
-    by_input d (Bytes n) w = bytes_along p a after n (and_left p.going (spent p) d) (and_right p.going (spent p) d) (omega (arith, w, z)) z' l (length a.input) z
-    by_input d Failed w = stopped_along p a after ok l
+    by_input : (p.going && spent p) ≡ true → (i : Option ℕ) → Within (length a.input) i → Along (refilled p (length a.input) i) (with_input after a)
+    by_input d (Some n) w = bytes_along p a after n (and_left p.going (spent p) d) (and_right p.going (spent p) d) (omega (arith, w, z)) z' l (length a.input) z
+    by_input d None w = stopped_along p a after ok l
 
     by_due : (b : Bool) → (p.going && spent p) ≡ b → Along (cond b (refilled p (length a.input) f.input) p) (with_input after a)
     by_due true d = by_input d f.input f.within

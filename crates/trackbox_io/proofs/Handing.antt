@@ -27,7 +27,8 @@ use Rattle.trackbox_feed.specs.Laws.{Memory, Scratch, Serves, square, Sized, len
 use Rattle.trackbox_feed.proofs.Theorem.{printed-is}
 use Rattle.trackbox_progress.specs.declared.progress.Progress.{Progress}
 use Rattle.trackbox_progress.specs.Progress.{spent, later}
-use Rattle.trackbox_io.specs.Turn.{text_bytes, call_bytes, answered, item_at, Arrays, boxes_of, Sizes, Stands, Hands}
+use Rattle.trackbox_progress.specs.Progress.{item_at}
+use Rattle.trackbox_io.specs.Turn.{text_bytes, call_bytes, answered, Arrays, boxes_of, Sizes, Stands, Hands}
 use Rattle.trackbox_io.specs.Laws.{waiting, said}
 use Rattle.trackbox_io.specs.Printed.{memory_in, Onward, Goes, Along}
 use Rattle.trackbox_io.proofs.Waiting.{waiting_grows}

@@ -17,8 +17,7 @@ use Rattle.trackbox_feed.specs.Trackbox.{trackbox}
 use Rattle.trackbox_feed.specs.Feed as calls
 use Rattle.trackbox_feed.specs.Laws.{Prints, memory}
 use Rattle.trackbox_feed.proofs.Theorem.{printed-is}
-use Rattle.program_io.specs.declared.calls.Input.{Input}
-use Rattle.program_io.specs.declared.calls.Input.TheVariants.{Bytes, Failed}
+use Rattle.std.proofs.Common.{Option, Some, None}
 use Rattle.program_io.specs.Prefix.{Prefix}
 use Rattle.trackbox_progress.specs.declared.progress.Progress.{Progress}
 use Rattle.trackbox_progress.specs.Progress.{spent, emptied}
@@ -26,7 +25,7 @@ use Rattle.trackbox_io.specs.Turn.{text_bytes, input_bytes, call_bytes, crowded,
 use Rattle.trackbox_io.specs.Laws.{waiting}
 use Rattle.trackbox_io.specs.Printed.{memory_in, Onward, Along, Printed}
 use Rattle.trackbox_io.proofs.BufferRecords.{records-split}
-use Rattle.trackbox_io.proofs.CallAnswers.{Some, some}
+use Rattle.trackbox_io.proofs.CallAnswers.{Some as SomeCalls, some}
 use Rattle.trackbox_io.proofs.Filling.{records_of_none, start_along, going_or, empty_along, fill_along}
 use Rattle.trackbox_io.proofs.Handing.{hands_along}
 
@@ -81,9 +80,9 @@ module _ (p r : Progress) (before after : List ℕ) (f : Fills p r before after)
   fills-on : r.going ≡ true → Filled
   fills-on g = by_due p.going (spent p) refl refl f.so
     where
-      by_input : p.going ≡ true → (i : Input) → r ≡ refilled p (length before) i → Filled
-      by_input pg (Bytes n) q = record { from = pg; used = ap (λ (x : Progress). x.used) q; ready = ap (λ (x : Progress). spent x) q ∙ not_spent n (length before) z }
-      by_input pg Failed q = absurd (true≢false (sym g ∙ ap (λ (x : Progress). x.going) q))
+      by_input : p.going ≡ true → (i : Option ℕ) → r ≡ refilled p (length before) i → Filled
+      by_input pg (Some n) q = record { from = pg; used = ap (λ (x : Progress). x.used) q; ready = ap (λ (x : Progress). spent x) q ∙ not_spent n (length before) z }
+      by_input pg None q = absurd (true≢false (sym g ∙ ap (λ (x : Progress). x.going) q))
 
       by_due : (c d : Bool) → p.going ≡ c → spent p ≡ d → r ≡ cond (c && d) (refilled p (length before) f.input) p → Filled
       by_due true true pg t q = by_input pg f.input q
@@ -131,7 +130,7 @@ prefix p a l g more last bytes = record { rest = follow.out; split = sym (printe
     all : List ℕ
     all = (l.before ++ l.held) ++ more
 
-    follow : Some (drop p.next (box_records l.held) ++ box_records more) (length all % box_bytes) p.feed (memory_in a)
+    follow : SomeCalls (drop p.next (box_records l.held) ++ box_records more) (length all % box_bytes) p.feed (memory_in a)
     follow = some (drop p.next (box_records l.held) ++ box_records more) (length all % box_bytes) p.feed (memory_in a)
 
     by_more : (b : Bool) → p.more ≡ b → box_records l.before ++ (box_records l.held ++ box_records more) ≡ box_records all

@@ -13,16 +13,13 @@ use Rattle.trackbox_feed.specs.declared.feed.Item.{Item}
 use Rattle.trackbox_feed.specs.declared.feed.Fed.{Fed}
 use Rattle.trackbox_feed.specs.declared.feed.Fed.TheVariants.{Taken, Again, Ended, Short}
 use Rattle.trackbox_feed.specs.Feed.{Lent, lent_with, call_with, fed}
-use Rattle.program_io.specs.declared.calls.Input.{Input}
-use Rattle.program_io.specs.declared.calls.Input.TheVariants.{Bytes, Failed}
+use Rattle.std.proofs.Common.{Option, Some, None}
 use Rattle.program_io.specs.Input.{Within}
 use Rattle.trackbox_progress.specs.declared.progress.Progress.{Progress}
-use Rattle.trackbox_io.specs.declared.turns.Ran.{Ran}
-use Rattle.trackbox_io.specs.declared.turns.Ran.TheVariants as ran
 use Rattle.trackbox_io.specs.Printed.{Along}
 use Rattle.trackbox_io.proofs.Theorem.{turn_along}
-use Rattle.trackbox_progress.specs.Progress.{spent, emptied, Needed}
-use Rattle.trackbox_io.specs.Turn.{text_bytes, input_bytes, Leaves, Ends, crowded, refilled, answered, item_at, Arrays, boxes_of, with_input, Sizes, Stands, Empties, Fills, Handed, Turned}
+use Rattle.trackbox_progress.specs.Progress.{spent, emptied, item_at, Needed}
+use Rattle.trackbox_io.specs.Turn.{text_bytes, input_bytes, Leaves, Ends, crowded, refilled, answered, Arrays, boxes_of, with_input, Sizes, Stands, Empties, Fills, Handed, Turned}
 
 -- ---- what waits is written out
 
@@ -41,9 +38,9 @@ due p size x y w e f h q =
 pub not_filled : (p : Progress) (before : List ℕ) (x : Bool) → x ≡ spent p → (p.going && x) ≡ false → Fills p p before before
 not_filled p before x e h =
     let off : (p.going && spent p) ≡ false = ap (λ (b : Bool). p.going && b) (sym e) ∙ h in
-    record { input = Failed; within = tt; so = ap (λ (b : Bool). cond b (refilled p (length before) Failed) p) (sym off); same = λ _. refl }
+    record { input = None; within = tt; so = ap (λ (b : Bool). cond b (refilled p (length before) None) p) (sym off); same = λ _. refl }
 
-pub filled : (p : Progress) (before after : List ℕ) (x : Bool) (i : Input) {r : Progress} → x ≡ spent p → (p.going && x) ≡ true → Within (length before) i → r ≡ refilled p (length before) i → Fills p r before after
+pub filled : (p : Progress) (before after : List ℕ) (x : Bool) (i : Option ℕ) {r : Progress} → x ≡ spent p → (p.going && x) ≡ true → Within (length before) i → r ≡ refilled p (length before) i → Fills p r before after
 filled p before after x i e h w q =
     let on : (p.going && spent p) ≡ true = ap (λ (b : Bool). p.going && b) (sym e) ∙ h in
     record { input = i; within = w; so = q ∙ ap (λ (b : Bool). cond b (refilled p (length before) i) p) (sym on); same = λ f. absurd (true≢false (sym on ∙ f)) }
@@ -91,9 +88,9 @@ stands-empties p r size s e = subst Stands (sym e.so) (by_due (crowded p.used si
     by_due true = stands-emptied p e.written s
     by_due false = s
 
-stands-refilled : (p : Progress) (size : ℕ) (i : Input) → size ≡ input_bytes → Stands p → Within size i → Stands (refilled p size i)
-stands-refilled p size (Bytes n) z s w = record { used = s.used; got = omega (arith, w, z) }
-stands-refilled p size Failed z s w = record { used = s.used; got = s.got }
+stands-refilled : (p : Progress) (size : ℕ) (i : Option ℕ) → size ≡ input_bytes → Stands p → Within size i → Stands (refilled p size i)
+stands-refilled p size (Some n) z s w = record { used = s.used; got = omega (arith, w, z) }
+stands-refilled p size None z s w = record { used = s.used; got = s.got }
 
 pub stands-fills : (p r : Progress) (before after : List ℕ) → length before ≡ input_bytes → Stands p → Fills p r before after → Stands r
 stands-fills p r before after z s e = subst Stands (sym e.so) (by_due (p.going && spent p))
@@ -135,6 +132,6 @@ runs_on p r a b zb g run t =
 
 -- ---- the end
 
-pub ends-leaves : (p : Progress) (bytes : ℕ) (r : Ran) → Ends p bytes r → Leaves bytes r
-ends-leaves p bytes (ran.Whole left) e = e.1
-ends-leaves p bytes ran.Failed e = tt
+pub ends-leaves : (p : Progress) (bytes : ℕ) (r : Option ℕ) → Ends p bytes r → Leaves bytes r
+ends-leaves p bytes (Some left) e = e.1
+ends-leaves p bytes None e = tt

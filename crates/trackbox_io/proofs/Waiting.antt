@@ -11,7 +11,7 @@ use lib.Seq.{take_all, take-add, take_at, drop_at, length-take-le}
 use Rattle.laws.specs.Tests.{and_left, and_right}
 use Rattle.trackbox_feed.specs.declared.feed.Fed.{Fed}
 use Rattle.trackbox_feed.specs.declared.feed.Fed.TheVariants.{Taken, Again, Ended, Short}
-use Rattle.program_io.specs.declared.calls.Input.TheVariants.{Failed}
+use Rattle.std.proofs.Common.{None}
 use Rattle.trackbox_progress.specs.declared.progress.Progress.{Progress}
 use Rattle.trackbox_progress.specs.Progress.{spent, stopped, emptied}
 use Rattle.trackbox_io.specs.Turn.{crowded, refilled, answered, Arrays, Empties, Fills, Hands, Turned}
@@ -92,7 +92,7 @@ write_fails p r a b t d w =
     (t.hands.stays (ap (λ (x : Progress). x.going) ready ∙ halts)).0 ∙ ready ∙ flushed
 
 -- where a read failed, nothing is handed on, the end least of all, and the run has stopped
-pub read_fails : (p r : Progress) (a b : Arrays) (t : Turned p r a b) → (t.flushed.going && spent t.flushed) ≡ true → t.fills.input ≡ Failed → r ≡ stopped t.flushed
+pub read_fails : (p r : Progress) (a b : Arrays) (t : Turned p r a b) → (t.flushed.going && spent t.flushed) ≡ true → t.fills.input ≡ None → r ≡ stopped t.flushed
 read_fails p r a b t d i =
     let f : Progress = t.flushed in
     let ready : t.ready ≡ stopped f = t.fills.so ∙ ap (λ (x : Bool). cond x (refilled f (length a.input) t.fills.input) f) d ∙ ap (refilled f (length a.input)) i in

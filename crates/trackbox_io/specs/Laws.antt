@@ -1,9 +1,8 @@
 -- What a turn does, said of the definitions of Turn: what waits grows by exactly the call's text, nothing waits while the input is read on, and after a write or a read that failed
 -- nothing is handed on and nothing is written. `laws` of proofs/Waiting.antt proves it.
-use Rattle.std.specs.Prelude.{◌≡◌, true, false, ◌&&◌, ◌||◌, List, [], ◌++◌, ℕ, ◌≤◌, length, take}
+use Rattle.std.specs.Prelude.{◌≡◌, true, false, ◌&&◌, ◌||◌, List, [], ◌++◌, ℕ, ◌≤◌, length, take, Option, None}
 use Rattle.trackbox_feed.specs.declared.feed.Fed.{Fed}
 use Rattle.trackbox_feed.specs.declared.feed.Fed.TheVariants.{Taken, Again, Ended, Short}
-use Rattle.program_io.specs.declared.calls.Input.TheVariants.{Failed}
 use Rattle.trackbox_progress.specs.declared.progress.Progress.{Progress}
 use Rattle.trackbox_progress.specs.Progress.{spent, stopped}
 use Rattle.trackbox_io.specs.Turn.{crowded, Arrays, Empties, Hands, Turned}
@@ -30,4 +29,4 @@ pub record Laws (p r : Progress) (a b : Arrays) : Type 0 where
   -- where a write failed, nothing is read and nothing handed on, and the run has stopped
   pub write_fails : (t : Turned p r a b) → (crowded p.used (length a.text) || spent p) ≡ true → t.empties.written ≡ false → r ≡ stopped p
   -- where a read failed, nothing is handed on, the end least of all, and the run has stopped
-  pub read_fails : (t : Turned p r a b) → (t.flushed.going && spent t.flushed) ≡ true → t.fills.input ≡ Failed → r ≡ stopped t.flushed
+  pub read_fails : (t : Turned p r a b) → (t.flushed.going && spent t.flushed) ≡ true → t.fills.input ≡ None → r ≡ stopped t.flushed

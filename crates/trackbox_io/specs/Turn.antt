@@ -1,23 +1,17 @@
 -- One turn of the loop: what waits is written out where the text has little room or the input is read on, the buffer is filled once its records are taken, and a record or the end is handed on.
 -- Whether a write failed and what a read brought are C's: each contract names them, and says what follows.
-use Rattle.std.specs.Prelude.{◌≡◌, Bool, true, false, cond, ◌&&◌, ◌||◌, List, ◌++◌, ℕ, ◌+◌, ◌-◌, ◌*◌, ◌/◌, ◌%◌, ◌≤◌, min, leb, ltb, length, take, drop, Float}
-use Rattle.records.specs.Field.{part}
-use Rattle.records.specs.BoxRecord.{box_bytes, box_of}
+use Rattle.std.specs.Prelude.{◌≡◌, Bool, true, false, cond, ◌&&◌, ◌||◌, List, ◌++◌, ℕ, ◌+◌, ◌-◌, ◌*◌, ◌/◌, ◌%◌, ◌≤◌, min, leb, ltb, length, take, drop, Float, Option, Some, None}
+use Rattle.records.specs.BoxRecord.{box_bytes}
 use Rattle.boost_tracker_verdict.specs.Boxes.{Boxes, boxes_with}
 use Rattle.trackbox_feed.specs.declared.feed.Feed.{Feed}
-use Rattle.trackbox_feed.specs.declared.feed.Item.{Item}
-use Rattle.trackbox_feed.specs.declared.feed.Item.TheVariants.{Record, End}
 use Rattle.trackbox_feed.specs.declared.feed.Fed.{Fed}
 use Rattle.trackbox_feed.specs.declared.feed.Fed.TheVariants.{Taken, Again, Ended, Short}
 use Rattle.trackbox_feed.specs.Trackbox.{lent_floats, lent_counters, lent_labels, lent_boxes, lent_box_labels, lent_output, lent_doubles, lent_singles}
 use Rattle.trackbox_feed.specs.Feed.{lent_with, call_with, fed}
-use Rattle.program_io.specs.declared.calls.Input.{Input}
-use Rattle.program_io.specs.declared.calls.Input.TheVariants.{Bytes, Failed}
 use Rattle.program_io.specs.Input.{Within}
 use Rattle.trackbox_progress.specs.declared.progress.Progress.{Progress}
 use Rattle.trackbox_progress.specs.Progress.{spent, stopped, emptied, later, Needed}
-use Rattle.trackbox_io.specs.declared.turns.Ran.{Ran}
-use Rattle.trackbox_io.specs.declared.turns.Ran.TheVariants as ran
+pub use Rattle.trackbox_progress.specs.Progress.{item_at}
 
 -- ---- how much the buffers hold
 
@@ -38,9 +32,9 @@ abbrev pub crowded : ℕ → ℕ → Bool
 crowded used size = ltb (size - used) call_bytes
 
 -- a buffer that is not full is the last
-abbrev pub refilled : Progress → ℕ → Input → Progress
-refilled p size (Bytes n) = record { feed = p.feed; left = p.left - n; more = leb size n; got = n; next = 0; used = p.used; going = p.going; failed = p.failed }
-refilled p size Failed = stopped p
+abbrev pub refilled : Progress → ℕ → Option ℕ → Progress
+refilled p size (Some n) = record { feed = p.feed; left = p.left - n; more = leb size n; got = n; next = 0; used = p.used; going = p.going; failed = p.failed }
+refilled p size None = stopped p
 
 abbrev pub known : Progress → Feed → ℕ → ℕ → Bool → Progress
 known p feed next used going = record { feed = feed; left = p.left; more = p.more; got = p.got; next = next; used = used; going = going; failed = false }
@@ -51,12 +45,6 @@ answered p size (Taken feed n) = known p feed (later p.next p.got) (min (p.used 
 answered p size (Again feed n) = known p feed p.next (min (p.used + n) size) true
 answered p size (Ended n) = known p p.feed p.next (min (p.used + n) size) false
 answered p size Short = stopped p
-
--- ---- what is handed on
-
--- record `next` of the first `got` bytes; behind the last whole one the end, with the rest's length
-unfoldable pub item_at : ℕ → ℕ → List ℕ → Item
-item_at next got input = cond (leb (got / box_bytes) next) (End (got % box_bytes)) (Record (box_of (part (next * box_bytes) box_bytes input)))
 
 -- ---- the arrays
 
@@ -106,7 +94,7 @@ pub record Empties (p r : Progress) (size : ℕ) : Type 0 where
   pub so : r ≡ cond (crowded p.used size || spent p) (emptied p written) p
 
 pub record Fills (p r : Progress) (before after : List ℕ) : Type 0 where
-  pub input : Input
+  pub input : Option ℕ
   pub within : Within (length before) input
   pub so : r ≡ cond (p.going && spent p) (refilled p (length before) input) p
   -- a buffer whose records are not all taken stays
@@ -148,11 +136,11 @@ pub record Turned (p r : Progress) (a b : Arrays) : Type 0 where
 -- ---- a run
 
 -- no more is left than there was
-abbrev pub Leaves : ℕ → Ran → Type 0
-Leaves bytes (ran.Whole left) = left ≤ bytes
-Leaves bytes ran.Failed = Unit {0}
+abbrev pub Leaves : ℕ → Option ℕ → Type 0
+Leaves bytes (Some left) = left ≤ bytes
+Leaves bytes None = Unit {0}
 
 -- that all is written is said only where no call failed
-abbrev pub Ends : Progress → ℕ → Ran → Type 0
-Ends p bytes (ran.Whole left) = (p.failed ≡ false) × (left ≤ bytes)
-Ends p bytes ran.Failed = Unit {0}
+abbrev pub Ends : Progress → ℕ → Option ℕ → Type 0
+Ends p bytes (Some left) = (p.failed ≡ false) × (left ≤ bytes)
+Ends p bytes None = Unit {0}

@@ -7,5 +7,4 @@ mod progress;
 mod turns;
 
 pub use calls::read;
-pub use program_io::Input;
-pub use turns::{Ran, run};
+pub use turns::run;

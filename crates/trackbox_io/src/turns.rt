@@ -5,27 +5,19 @@ ghost use Rattle.trackbox_io.specs.Turn as Spec;
 ghost use Rattle.trackbox_io.specs.Turn.{arrays};
 
 use crate::calls::{flush, read_input};
-use crate::progress::{answered, crowded, item, refilled};
-use program_io::{Input, Streams};
+use crate::progress::{answered, crowded, refilled};
+use program_io::Streams;
 use records::BOX_BYTES;
 use trackbox_feed::{
     LENT_BOX_LABELS, LENT_BOXES, LENT_COUNTERS, LENT_DOUBLES, LENT_FLOATS, LENT_LABELS,
     LENT_OUTPUT, LENT_SINGLES,
 };
-use trackbox_progress::{Progress, emptied, needed, spent, start};
+use trackbox_progress::{Progress, emptied, item, needed, spent, start};
 
 const TEXT_BYTES: usize = 65536;
 
 // Whole records, so that none lies across the end of the buffer.
 const INPUT_BYTES: usize = TEXT_BYTES / BOX_BYTES * BOX_BYTES;
-
-#[derive(Clone, Copy)]
-pub enum Ran {
-    // The stream has ended or was turned down, and what it prints is written. So many of its bytes were not read.
-    Whole(u64),
-    // A read or a write failed, and standard error has a line that says so.
-    Failed,
-}
 
 // Writes out what waits where the text has little room, and before the input is read on: so nothing waits where a read fails.
 fn empty(streams: Streams, p: Progress, text: &[u8]) -> Progress
@@ -39,16 +31,12 @@ fn empty(streams: Streams, p: Progress, text: &[u8]) -> Progress
     emptied(p, flush(streams, used, text))
 }
 
-// Reads at most `most` bytes.
-fn fill(streams: Streams, most: u64, input: &mut [u8]) -> Input
+// Reads at most `most` bytes, and answers how many it read. None: the read failed.
+fn fill(streams: Streams, most: u64, input: &mut [u8]) -> Option<usize>
     ensures { Within (length input.old) result }
 {
-    let size = input.len();
-    if most < size as u64 {
-        let want = most as usize;
-        return read_input(streams, &mut input[..want]);
-    }
-    read_input(streams, input)
+    let want = most.min(input.len() as u64) as usize;
+    read_input(streams, &mut input[..want])
 }
 
 // Reads on where the buffer's records are taken.
@@ -132,32 +120,24 @@ fn turn(
     )
 }
 
-fn unread(left: u64, bytes: u64) -> u64
-    ensures { result ≤ bytes }
-{
-    if bytes < left {
-        return bytes;
-    }
-    left
-}
-
-// Writes out what still waits.
-fn end(streams: Streams, p: Progress, bytes: u64, text: &[u8]) -> Ran
+// Writes out what still waits, and answers how many bytes of the stream were not read. None: this or another call failed.
+fn end(streams: Streams, p: Progress, bytes: u64, text: &[u8]) -> Option<u64>
     requires { p.used ≤ length text.now }
     ensures { Spec.Ends p bytes result }
 {
     if p.failed {
-        return Ran::Failed;
+        return None;
     }
     if !flush(streams, p.used, text) {
-        return Ran::Failed;
+        return None;
     }
-    Ran::Whole(unread(p.left, bytes))
+    Some(p.left.min(bytes))
 }
 
-// A stream of at most so many bytes.
+// A stream of at most so many bytes. Some: the stream has ended or was turned down, and what it prints is written; so many of its bytes were not read.
+// None: a read or a write failed, and standard error has a line that says so.
 // A proved loop has to end: the count of turns is one that no run uses up.
-pub fn run(streams: Streams, bytes: u64) -> Ran
+pub fn run(streams: Streams, bytes: u64) -> Option<u64>
     ensures { Spec.Leaves bytes result }
 {
     let mut input = [0u8; INPUT_BYTES];
@@ -171,8 +151,10 @@ pub fn run(streams: Streams, bytes: u64) -> Ran
     let mut work64 = [0.0f64; LENT_DOUBLES];
     let mut work32 = [0.0f32; LENT_SINGLES];
     let mut now = start(bytes);
-    let mut turns = u64::MAX;
-    while (0 < turns) & now.going {
+    'turns: for _ in 0..u64::MAX {
+        if !now.going {
+            break;
+        }
         now = turn(
             streams,
             now,
@@ -187,7 +169,6 @@ pub fn run(streams: Streams, bytes: u64) -> Ran
             &mut work64,
             &mut work32,
         );
-        turns -= 1;
     }
     end(streams, now, bytes, &text)
 }

@@ -1,6 +1,9 @@
 -- Where a run of trackbox stands between two turns of its loop.
-use Rattle.std.specs.Prelude.{Bool, true, false, cond, ◌&&◌, ℕ, ◌+◌, ◌*◌, ◌/◌, leb, ltb}
-use Rattle.records.specs.BoxRecord.{box_bytes}
+use Rattle.std.specs.Prelude.{Bool, true, false, cond, ◌&&◌, List, ℕ, ◌+◌, ◌*◌, ◌/◌, ◌%◌, leb, ltb}
+use Rattle.records.specs.Field.{part}
+use Rattle.records.specs.BoxRecord.{box_bytes, box_of}
+use Rattle.trackbox_feed.specs.declared.feed.Item.{Item}
+use Rattle.trackbox_feed.specs.declared.feed.Item.TheVariants.{Record, End}
 use Rattle.trackbox_feed.specs.Trackbox.{lent_doubles, lent_singles}
 use Rattle.trackbox_feed.specs.Feed as calls
 use Rattle.trackbox_feed.specs.Laws.{Serves, square}
@@ -25,6 +28,10 @@ emptied p written = cond written (cleared p) (stopped p)
 
 abbrev pub later : ℕ → ℕ → ℕ
 later next got = cond (ltb next (got / box_bytes)) (next + 1) next
+
+-- record `next` of the first `got` bytes; behind the last whole one the end, with the rest's length
+unfoldable pub item_at : ℕ → ℕ → List ℕ → Item
+item_at next got input = cond (leb (got / box_bytes) next) (End (got % box_bytes)) (Record (box_of (part (next * box_bytes) box_bytes input)))
 
 -- how many f64 a frame is lent: of f32 it is four times as many
 pub record Needed (held boxes n : ℕ) : Type 0 where

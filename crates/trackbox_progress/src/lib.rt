@@ -3,4 +3,4 @@
 
 mod progress;
 
-pub use progress::{Progress, emptied, later, needed, spent, start, stopped};
+pub use progress::{Progress, emptied, item, later, needed, spent, start, stopped};

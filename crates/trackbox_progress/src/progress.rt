@@ -1,13 +1,12 @@
 // Where a run stands, and what it does next.
-ghost use Rattle.std.specs.Prelude.{◌≡◌};
+ghost use Rattle.std.specs.Prelude.{◌≡◌, ◌≤◌, length};
 ghost use Rattle.trackbox_progress.specs.Progress as Spec;
 
-use records::BOX_BYTES;
-use refusals::larger;
-use trackbox_feed::{Feed, LENT_DOUBLES};
+use records::{BOX_BYTES, read_box};
+use trackbox_feed::{Feed, Item, LENT_DOUBLES};
 
 // What is known between two turns.
-#[derive(Clone, Copy)]
+#[derive(Clone, Copy, Debug, PartialEq, Eq)]
 pub struct Progress {
     pub feed: Feed,
     // bytes of the stream that are not read yet
@@ -51,22 +50,22 @@ pub fn spent(p: Progress) -> bool
 pub fn stopped(p: Progress) -> Progress
     ensures { result ≡ Spec.stopped p }
 {
-    let mut now = p;
-    now.going = false;
-    now.failed = true;
-    now
+    Progress {
+        going: false,
+        failed: true,
+        ..p
+    }
 }
 
 // What waited is written out, or not.
 pub fn emptied(p: Progress, written: bool) -> Progress
     ensures { result ≡ Spec.emptied p written }
 {
-    if !written {
-        return stopped(p);
+    if written {
+        Progress { used: 0, ..p }
+    } else {
+        stopped(p)
     }
-    let mut now = p;
-    now.used = 0;
-    now
 }
 
 // The record behind this one.
@@ -79,11 +78,22 @@ pub fn later(next: usize, got: usize) -> usize
     next
 }
 
+// Record `next` of the first `got` bytes; behind the last whole one the end, with how many bytes are left.
+pub fn item(next: usize, got: usize, input: &[u8]) -> Item
+    requires { got ≤ length input.now }
+    ensures { result ≡ Spec.item_at next got input.now }
+{
+    match read_box(&input[..got], next) {
+        Some(r) => Item::Record(r),
+        None => Item::End(got % BOX_BYTES),
+    }
+}
+
 // n × n, n the larger of the held tracks and the open frame's boxes, or all 64 × 64.
 pub fn needed(held: usize, boxes: usize) -> usize
     ensures { Spec.Needed held boxes result }
 {
-    let n = larger(held, boxes);
+    let n = held.max(boxes);
     if 64 < n {
         return LENT_DOUBLES;
     }

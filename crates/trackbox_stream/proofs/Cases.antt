@@ -6,11 +6,13 @@ use native.Mathlib.Omega.{arith}
 use lib.Dec.{eqb, leb, ltb}
 use borrow.Author.Tests.{ltb-true, ltb-false, leb-true, leb-false, eqb-false}
 use Rattle.laws.specs.Tests.{or_none}
+use Rattle.std.proofs.Common.{Result, Ok, Err}
 use Rattle.trackbox_stream.specs.declared.rules.OpenFrame.{OpenFrame}
 use Rattle.trackbox_stream.specs.declared.rules.Refusal.TheVariants.{FrameBack, FrameFar, TooManyBoxes}
+use Rattle.trackbox_stream.specs.declared.rules.Fault.{Fault}
 use Rattle.trackbox_stream.specs.declared.rules.Next.{Next}
 use Rattle.trackbox_stream.specs.declared.rules.Next.TheVariants as next
-use Rattle.trackbox_stream.specs.Rules.{opened, grown, judged}
+use Rattle.trackbox_stream.specs.Rules.{fault, opened, grown, judged}
 
 -- not 0 and not below the previous
 abbrev pub Ahead : OpenFrame → ℕ → Type 0
@@ -24,25 +26,25 @@ ahead-some state frame e =
     let n : frame ≡ 0 → ⊥ = eqb-false frame 0 (or_none (eqb frame 0) (ltb frame state.frame) e).0 in
     omega arith
 
-pub data Judges (state : OpenFrame) (nth frame : ℕ) : Next → Type 0 where
-  back : (eqb frame 0 || ltb frame state.frame) ≡ true → Judges state nth frame (next.Refused FrameBack nth)
-  far : Ahead state frame → 1000 < frame - state.frame → Judges state nth frame (next.Refused FrameFar nth)
-  later : Ahead state frame → frame - state.frame ≤ 1000 → state.frame < frame → Judges state nth frame (next.Later (frame - state.frame - 1) (opened nth frame))
-  full : Ahead state frame → frame ≡ state.frame → 64 ≤ state.boxes → Judges state nth frame (next.Refused TooManyBoxes nth)
-  same : Ahead state frame → frame ≡ state.frame → state.boxes < 64 → Judges state nth frame (next.Same (grown state nth (state.boxes + 1)))
+pub data Judges (state : OpenFrame) (nth frame : ℕ) : Result Next Fault → Type 0 where
+  back : (eqb frame 0 || ltb frame state.frame) ≡ true → Judges state nth frame (Err (fault FrameBack nth))
+  far : Ahead state frame → 1000 < frame - state.frame → Judges state nth frame (Err (fault FrameFar nth))
+  later : Ahead state frame → frame - state.frame ≤ 1000 → state.frame < frame → Judges state nth frame (Ok (next.Later (frame - state.frame - 1) (opened nth frame)))
+  full : Ahead state frame → frame ≡ state.frame → 64 ≤ state.boxes → Judges state nth frame (Err (fault TooManyBoxes nth))
+  same : Ahead state frame → frame ≡ state.frame → state.boxes < 64 → Judges state nth frame (Ok (next.Same (grown state nth (state.boxes + 1))))
 
 -- `judged` behind its four tests
-abbrev at_limit : OpenFrame → ℕ → Bool → Next
-at_limit state nth b = cond b (next.Refused TooManyBoxes nth) (next.Same (grown state nth (state.boxes + 1)))
+abbrev at_limit : OpenFrame → ℕ → Bool → Result Next Fault
+at_limit state nth b = cond b (Err (fault TooManyBoxes nth)) (Ok (next.Same (grown state nth (state.boxes + 1))))
 
-abbrev at_turn : OpenFrame → ℕ → ℕ → Bool → Next
-at_turn state nth frame b = cond b (next.Later (frame - state.frame - 1) (opened nth frame)) (at_limit state nth (leb 64 state.boxes))
+abbrev at_turn : OpenFrame → ℕ → ℕ → Bool → Result Next Fault
+at_turn state nth frame b = cond b (Ok (next.Later (frame - state.frame - 1) (opened nth frame))) (at_limit state nth (leb 64 state.boxes))
 
-abbrev at_step : OpenFrame → ℕ → ℕ → Bool → Next
-at_step state nth frame b = cond b (next.Refused FrameFar nth) (at_turn state nth frame (ltb state.frame frame))
+abbrev at_step : OpenFrame → ℕ → ℕ → Bool → Result Next Fault
+at_step state nth frame b = cond b (Err (fault FrameFar nth)) (at_turn state nth frame (ltb state.frame frame))
 
-abbrev at_number : OpenFrame → ℕ → ℕ → Bool → Next
-at_number state nth frame b = cond b (next.Refused FrameBack nth) (at_step state nth frame (ltb 1000 (frame - state.frame)))
+abbrev at_number : OpenFrame → ℕ → ℕ → Bool → Result Next Fault
+at_number state nth frame b = cond b (Err (fault FrameBack nth)) (at_step state nth frame (ltb 1000 (frame - state.frame)))
 
 pub judges : (state : OpenFrame) (nth frame : ℕ) → Judges state nth frame (judged state nth frame)
 unfolding judged

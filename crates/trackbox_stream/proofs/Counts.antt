@@ -2,7 +2,9 @@
 use mathlib.Core.Path.{◌≡◌}
 use Prim.Native.Nat.{ℕ, ◌+◌, ◌-◌, ◌*◌, ◌≤◌, ◌<◌, zero-le}
 use native.Mathlib.Omega.{arith}
+use Rattle.std.proofs.Common.{Result}
 use Rattle.trackbox_stream.specs.declared.rules.OpenFrame.{OpenFrame}
+use Rattle.trackbox_stream.specs.declared.rules.Fault.{Fault}
 use Rattle.trackbox_stream.specs.declared.rules.Next.{Next}
 use Rattle.trackbox_stream.specs.Rules.{start, nth_after, opened, grown, judged}
 use Rattle.trackbox_stream.specs.Laws.{frame_numbers, Sound, Goes, on, over, stop}
@@ -29,7 +31,7 @@ sound-grown state nth h e p b = record { counts = omega (arith, h.counts); early
 pub goes : (state : OpenFrame) (frame : ℕ) → Sound state → frame < frame_numbers → Goes (judged state (nth_after state.records) frame)
 goes state frame h w = by_cases (judged state (nth_after state.records) frame) (judges state (nth_after state.records) frame)
   where
-    by_cases : (n : Next) → Judges state (nth_after state.records) frame n → Goes n
+    by_cases : (n : Result Next Fault) → Judges state (nth_after state.records) frame n → Goes n
     by_cases n (back e) = stop _ _
     by_cases n (far a m) = stop _ _
     by_cases n (later a m l) = over {m = frame - state.frame - 1} (omega arith) (sound-opened state (nth_after state.records) frame h (exact state h) l w)

@@ -1,5 +1,5 @@
 -- What one more record does to the frames of those that passed. Assumes nothing.
-use mathlib.Core.Path.{◌≡◌, refl, sym, ap, ◌∙◌}
+use mathlib.Core.Path.{◌≡◌, sym, ap, ◌∙◌}
 use mathlib.Core.Bool.{Bool, cond}
 use mathlib.Core.List.{List, [], ◌∷◌, ◌++◌, append_assoc, append-nil, foldl-append}
 use Prim.Native.Nat.{ℕ, zero, suc, ◌+◌, ◌-◌, ◌≤◌, ◌<◌}
@@ -49,10 +49,6 @@ module _ (passed : List BoxRecord) (r : BoxRecord) where
   pub frames_kept : (n : ℕ) → n < r.frame → frames (passed ++ (r ∷ [])) n ≡ frames passed n
   unfolding frames
   frames_kept n h = tab_ext (λ (i : ℕ). frame_work (passed ++ (r ∷ [])) (i + 1)) (λ (i : ℕ). frame_work passed (i + 1)) n (λ i l. work_kept (i + 1) (omega arith))
-
-pub frames-none : (passed : List BoxRecord) → frames passed 0 ≡ []
-unfolding frames tab
-frames-none passed = refl
 
 pub frames_suc : (passed : List BoxRecord) (n : ℕ) → frames passed (suc n) ≡ frames passed n ++ (frame_work passed (suc n) ∷ [])
 unfolding frames tab

@@ -3,7 +3,6 @@ use mathlib.Core.Path.{◌≡◌, refl, ap, ◌∙◌}
 use mathlib.Core.Bool.{true, ◌||◌}
 use mathlib.Core.List.{List}
 use Prim.Native.Nat.{ℕ, ◌+◌, ◌-◌, ◌*◌, ◌/◌, ◌≤◌, ◌<◌}
-use native.Mathlib.Omega.{arith}
 use lib.Dec.{eqb, ltb}
 use lib.Ieee.{Float}
 use lib.ListN.{length, set}
@@ -12,54 +11,47 @@ use borrow.Rule.Slice.PartMut.{put_mid}
 use Rattle.laws.specs.Splice.{mid_splice}
 use Rattle.records.specs.declared.box_record.BoxRecord.{BoxRecord}
 use Rattle.records.specs.BoxRecord.{box_values}
+use Rattle.std.proofs.Common.{Ok, Err}
 use Rattle.trackbox_stream.specs.declared.rules.OpenFrame.{OpenFrame}
 use Rattle.trackbox_stream.specs.declared.rules.Refusal.TheVariants.{RecordIncomplete, FrameBack, FrameFar, TooManyBoxes}
 use Rattle.trackbox_stream.specs.declared.rules.Next.TheVariants as next
-use Rattle.trackbox_stream.specs.declared.rules.Ending.TheVariants as ending
-use Rattle.trackbox_stream.specs.Rules.{nth_after, opened, grown, judged, closed}
+use Rattle.trackbox_stream.specs.Rules.{fault, nth_after, opened, grown, judged, closed}
 use Rattle.trackbox_stream.specs.Boxes.{box_floats, held_then, label_then}
 use Rattle.trackbox_stream.proofs.Cases.{Ahead}
 
--- the record behind n has the next number, up to the largest u64
-pub counted : (n : ℕ) → n < 18446744073709551615 → n + 1 ≡ nth_after n
-counted n h = omega (arith, h)
-
-pub counted-out : (n : ℕ) → 18446744073709551615 ≤ n → 18446744073709551615 ≡ nth_after n
-counted-out n h = omega (arith, h)
-
 module _ (state : OpenFrame) (n frame : ℕ) (e : n ≡ nth_after state.records) where
-  pub back : (eqb frame 0 || ltb frame state.frame) ≡ true → next.Refused FrameBack n ≡ judged state (nth_after state.records) frame
+  pub back : (eqb frame 0 || ltb frame state.frame) ≡ true → Err (fault FrameBack n) ≡ judged state (nth_after state.records) frame
   unfolding judged
-  back t = rw t (ap (λ (k : ℕ). next.Refused FrameBack k) e)
+  back t = rw t (ap (λ (k : ℕ). Err (fault FrameBack k)) e)
 
-  pub far : Ahead state frame → 1000 < frame - state.frame → next.Refused FrameFar n ≡ judged state (nth_after state.records) frame
+  pub far : Ahead state frame → 1000 < frame - state.frame → Err (fault FrameFar n) ≡ judged state (nth_after state.records) frame
   unfolding judged
-  far t m = rw (t, lt-ltb 1000 (frame - state.frame) m) (ap (λ (k : ℕ). next.Refused FrameFar k) e)
+  far t m = rw (t, lt-ltb 1000 (frame - state.frame) m) (ap (λ (k : ℕ). Err (fault FrameFar k)) e)
 
   pub later : Ahead state frame → frame - state.frame ≤ 1000 → state.frame < frame → (o : OpenFrame) → o ≡ opened n frame
-      → next.Later (frame - state.frame - 1) o ≡ judged state (nth_after state.records) frame
+      → Ok (next.Later (frame - state.frame - 1) o) ≡ judged state (nth_after state.records) frame
   unfolding judged
   later t m l o q =
       rw (t, le-ltb 1000 (frame - state.frame) m, lt-ltb state.frame frame l)
-      (ap (λ (s : OpenFrame). next.Later (frame - state.frame - 1) s) (q ∙ ap (λ (k : ℕ). opened k frame) e))
+      (ap (λ (s : OpenFrame). Ok (next.Later (frame - state.frame - 1) s)) (q ∙ ap (λ (k : ℕ). opened k frame) e))
 
-  pub full : Ahead state frame → frame - state.frame ≤ 1000 → frame ≤ state.frame → 64 ≤ state.boxes → next.Refused TooManyBoxes n ≡ judged state (nth_after state.records) frame
+  pub full : Ahead state frame → frame - state.frame ≤ 1000 → frame ≤ state.frame → 64 ≤ state.boxes → Err (fault TooManyBoxes n) ≡ judged state (nth_after state.records) frame
   unfolding judged
   full t m l b =
-      rw (t, le-ltb 1000 (frame - state.frame) m, le-ltb state.frame frame l, le-leb 64 state.boxes b) (ap (λ (k : ℕ). next.Refused TooManyBoxes k) e)
+      rw (t, le-ltb 1000 (frame - state.frame) m, le-ltb state.frame frame l, le-leb 64 state.boxes b) (ap (λ (k : ℕ). Err (fault TooManyBoxes k)) e)
 
   pub same : Ahead state frame → frame - state.frame ≤ 1000 → frame ≤ state.frame → state.boxes < 64 → (o : OpenFrame) → o ≡ grown state n (state.boxes + 1)
-      → next.Same o ≡ judged state (nth_after state.records) frame
+      → Ok (next.Same o) ≡ judged state (nth_after state.records) frame
   unfolding judged
   same t m l b o q =
       rw (t, le-ltb 1000 (frame - state.frame) m, le-ltb state.frame frame l, lt-leb 64 state.boxes b)
-      (ap next.Same (q ∙ ap (λ (k : ℕ). grown state k (state.boxes + 1)) e))
+      (ap (λ (s : OpenFrame). Ok (next.Same s)) (q ∙ ap (λ (k : ℕ). grown state k (state.boxes + 1)) e))
 
-pub cut : (state : OpenFrame) (n : ℕ) → n ≡ nth_after state.records → (rest : ℕ) → 0 < rest → ending.Refused RecordIncomplete n ≡ closed (nth_after state.records) rest
+pub cut : (state : OpenFrame) (n : ℕ) → n ≡ nth_after state.records → (rest : ℕ) → 0 < rest → Err (fault RecordIncomplete n) ≡ closed (nth_after state.records) rest
 unfolding closed
-cut state n e rest h = rw (lt-ltb 0 rest h) (ap (λ (k : ℕ). ending.Refused RecordIncomplete k) e)
+cut state n e rest h = rw (lt-ltb 0 rest h) (ap (λ (k : ℕ). Err (fault RecordIncomplete k)) e)
 
-pub clean : (nth rest : ℕ) → rest ≤ 0 → ending.Clean ≡ closed nth rest
+pub clean : (nth rest : ℕ) → rest ≤ 0 → Ok tt ≡ closed nth rest
 unfolding closed
 clean nth rest h = rw (le-ltb 0 rest h)
 

@@ -15,13 +15,14 @@ use Rattle.laws.specs.Sieve.{sieve}
 use Rattle.records.specs.declared.box_record.BoxRecord.{BoxRecord}
 use Rattle.records.specs.Field.{AreBytes}
 use Rattle.records.specs.BoxRecord.{box_bytes}
+use Rattle.std.proofs.Common.{Result, Ok, Err}
 use Rattle.trackbox_stream.specs.declared.rules.OpenFrame.{OpenFrame}
 use Rattle.trackbox_stream.specs.declared.rules.Refusal.{Refusal}
 use Rattle.trackbox_stream.specs.declared.rules.Refusal.TheVariants.{RecordIncomplete, FrameBack, FrameFar, TooManyBoxes}
+use Rattle.trackbox_stream.specs.declared.rules.Fault.{Fault}
 use Rattle.trackbox_stream.specs.declared.rules.Next.{Next}
 use Rattle.trackbox_stream.specs.declared.rules.Next.TheVariants as next
-use Rattle.trackbox_stream.specs.declared.rules.Ending.TheVariants as ending
-use Rattle.trackbox_stream.specs.Rules.{number, nth_after, opened, grown, judged, closed}
+use Rattle.trackbox_stream.specs.Rules.{number, fault, nth_after, opened, grown, judged, closed}
 use Rattle.trackbox_stream.specs.Stream.{Event, refuse, last_frame, boxes_of, earlier, frames, refusal_of, Passing, passing_with, passing, done, why_of, events, box_records, Frame, Printed, printed_with, prints, printing, trackbox}
 use Rattle.trackbox_stream.specs.Feeding.{Run, run_with, begin, open_work, empty_work, told, told_at_end, follow, feed, finish, fed}
 use Rattle.trackbox_stream.specs.Laws.{frame_numbers, wide, Sound, Laws}
@@ -63,7 +64,7 @@ nth_is : (passed : List BoxRecord) (run : Run) → Fed passed run → nth_after 
 nth_is passed run w = exact run.state w.sound ∙ ap (λ (n : ℕ). n + 1) w.records
 
 fed-same : (passed : List BoxRecord) (run : Run) (r : BoxRecord) (nth : ℕ) → Fed passed run → nth ≡ length passed + 1 → Sound (grown run.state nth (run.state.boxes + 1))
-    → 0 < r.frame → r.frame ≡ run.state.frame → Fed (passed ++ (r ∷ [])) (follow run r (next.Same (grown run.state nth (run.state.boxes + 1))))
+    → 0 < r.frame → r.frame ≡ run.state.frame → Fed (passed ++ (r ∷ [])) (follow run r (Ok (next.Same (grown run.state nth (run.state.boxes + 1)))))
 fed-same passed run r nth w e s p q = record {
   sound = s;
   going = refl;
@@ -92,7 +93,7 @@ later-log passed run r nth w e l =
     ∙ sym (frames_kept passed r (r.frame - 1) below)
 
 fed-later : (passed : List BoxRecord) (run : Run) (r : BoxRecord) (nth : ℕ) → Fed passed run → nth ≡ length passed + 1 → Sound (opened nth r.frame) → run.state.frame < r.frame
-    → Fed (passed ++ (r ∷ [])) (follow run r (next.Later (r.frame - run.state.frame - 1) (opened nth r.frame)))
+    → Fed (passed ++ (r ∷ [])) (follow run r (Ok (next.Later (r.frame - run.state.frame - 1) (opened nth r.frame))))
 fed-later passed run r nth w e s l = record {
   sound = s;
   going = refl;
@@ -145,9 +146,9 @@ module _ (passed : List BoxRecord) (run : Run) (w : Fed passed run) (frame : ℕ
 
 -- ---- one record
 
-data Fares (passed : List BoxRecord) (run : Run) (r : BoxRecord) (n : Next) : Type 0 where
+data Fares (passed : List BoxRecord) (run : Run) (r : BoxRecord) (n : Result Next Fault) : Type 0 where
   passes : refusal_of passed r.frame ≡ 0 → Fed (passed ++ (r ∷ [])) (follow run r n) → Fares passed run r n
-  refuses : (why : Refusal) → n ≡ next.Refused why (length passed + 1) → refusal_of passed r.frame ≡ number why → 0 < number why → Fares passed run r n
+  refuses : (why : Refusal) → n ≡ Err (fault why (length passed + 1)) → refusal_of passed r.frame ≡ number why → 0 < number why → Fares passed run r n
 
 fares : (passed : List BoxRecord) (run : Run) (r : BoxRecord) → Fed passed run → r.frame < frame_numbers → Fares passed run r (judged run.state (nth_after run.state.records) r.frame)
 fares passed run r w h = by_cases (judged run.state (nth_after run.state.records) r.frame) (judges run.state (nth_after run.state.records) r.frame)
@@ -155,12 +156,12 @@ fares passed run r w h = by_cases (judged run.state (nth_after run.state.records
     e : nth_after run.state.records ≡ length passed + 1
     e = nth_is passed run w
 
-    by_cases : (n : Next) → Judges run.state (nth_after run.state.records) r.frame n → Fares passed run r n
-    by_cases n (back t) = refuses FrameBack (ap (λ (k : ℕ). next.Refused FrameBack k) e) (refused-back passed run w r.frame t) (omega arith)
-    by_cases n (far a m) = refuses FrameFar (ap (λ (k : ℕ). next.Refused FrameFar k) e) (refused-far passed run w r.frame a m) (omega arith)
+    by_cases : (n : Result Next Fault) → Judges run.state (nth_after run.state.records) r.frame n → Fares passed run r n
+    by_cases n (back t) = refuses FrameBack (ap (λ (k : ℕ). Err (fault FrameBack k)) e) (refused-back passed run w r.frame t) (omega arith)
+    by_cases n (far a m) = refuses FrameFar (ap (λ (k : ℕ). Err (fault FrameFar k)) e) (refused-far passed run w r.frame a m) (omega arith)
     by_cases n (later a m l) =
         passes (passed_later passed run w r.frame a m l) (fed-later passed run r (nth_after run.state.records) w e (sound-opened run.state (nth_after run.state.records) r.frame w.sound (exact run.state w.sound) l h) l)
-    by_cases n (full a q m) = refuses TooManyBoxes (ap (λ (k : ℕ). next.Refused TooManyBoxes k) e) (refused_full passed run w r.frame a q m) (omega arith)
+    by_cases n (full a q m) = refuses TooManyBoxes (ap (λ (k : ℕ). Err (fault TooManyBoxes k)) e) (refused_full passed run w r.frame a q m) (omega arith)
     by_cases n (same a q m) =
         let some = ahead-some run.state r.frame a in
         passes (passed-same passed run w r.frame a q m) (fed-same passed run r (nth_after run.state.records) w e (sound-grown run.state (nth_after run.state.records) w.sound (exact run.state w.sound) (omega arith) m) some q)
@@ -206,7 +207,7 @@ unfolding finish closed
 ends passed run rest w =
     ap (λ (g : Bool). cond g (run.log ++ told_at_end run.state run.boxes (closed (nth_after run.state.records) rest)) run.log) w.going ∙ by_cases (ltb 0 rest)
   where
-    by_cases : (b : Bool) → run.log ++ told_at_end run.state run.boxes (cond b (ending.Refused RecordIncomplete (nth_after run.state.records)) ending.Clean) ≡ done passed (cond b 41 0)
+    by_cases : (b : Bool) → run.log ++ told_at_end run.state run.boxes (cond b (Err (fault RecordIncomplete (nth_after run.state.records))) (Ok tt)) ≡ done passed (cond b 41 0)
     by_cases true =
         ap (λ (es : List Event). es ++ (refuse 41 (nth_after run.state.records) ∷ [])) (log_is passed run w)
         ∙ ap (λ (n : ℕ). frames passed (last_frame passed - 1) ++ (refuse 41 n ∷ [])) (nth_is passed run w)
@@ -233,7 +234,7 @@ one_more r rs rest passed run w (passes e f) ih =
     ∙ ap (λ (p : Passing). done_of p rest) (sym (passing-on passed r rs e))
 one_more r rs rest passed run w (refuses why n e h) ih =
     ap (λ (x : Run). finish (foldl feed x rs) rest) (feed-going run r w.going ∙ ap (follow run r) n)
-    ∙ ap (λ (x : Run). finish x rest) (feed-stopped rs (follow run r (next.Refused why (length passed + 1))) refl)
+    ∙ ap (λ (x : Run). finish x rest) (feed-stopped rs (follow run r (Err (fault why (length passed + 1)))) refl)
     ∙ stop-ends (run.log ++ (refuse (number why) (length passed + 1) ∷ [])) run.state run.boxes rest
     ∙ ap (λ (es : List Event). es ++ (refuse (number why) (length passed + 1) ∷ [])) (log_is passed run w)
     ∙ sym (done-some passed (number why) h)

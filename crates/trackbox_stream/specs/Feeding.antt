@@ -1,13 +1,12 @@
 -- The rules fed with one record after another: what the code comes to. Laws has the theorem that this is `events` of Stream.
-use Rattle.std.specs.Prelude.{Bool, true, false, cond, ℕ, ◌+◌, eqb}
+use Rattle.std.specs.Prelude.{Bool, true, false, cond, ℕ, ◌+◌, eqb, ⊤, Result, Ok, Err}
 use mathlib.Core.List.{List, [], ◌∷◌, ◌++◌, foldl}
 use Rattle.laws.specs.Tab.{tab}
 use Rattle.records.specs.declared.box_record.BoxRecord.{BoxRecord}
 use Rattle.trackbox_stream.specs.declared.rules.OpenFrame.{OpenFrame}
 use Rattle.trackbox_stream.specs.declared.rules.Next.{Next}
 use Rattle.trackbox_stream.specs.declared.rules.Next.TheVariants as next
-use Rattle.trackbox_stream.specs.declared.rules.Ending.{Ending}
-use Rattle.trackbox_stream.specs.declared.rules.Ending.TheVariants as ending
+use Rattle.trackbox_stream.specs.declared.rules.Fault.{Fault}
 use Rattle.trackbox_stream.specs.Rules.{number, start, nth_after, judged, closed}
 use Rattle.trackbox_stream.specs.Stream.{Event, work, refuse}
 
@@ -35,32 +34,31 @@ unfoldable pub empty_work : ℕ → ℕ → ℕ → List Event
 empty_work m f nth = tab (λ (i : ℕ). work (f + i) [] nth) m
 
 -- what is done where a record is judged so, and what at the end
-abbrev pub told : OpenFrame → List BoxRecord → Next → List Event
-told state boxes (next.Same then) = []
-told state boxes (next.Later m then) = open_work state boxes ++ empty_work m (state.frame + 1) then.first
-told state boxes (next.Refused why nth) = refuse (number why) nth ∷ []
+abbrev pub told : OpenFrame → List BoxRecord → Result Next Fault → List Event
+told state boxes (Ok (next.Same then)) = []
+told state boxes (Ok (next.Later m then)) = open_work state boxes ++ empty_work m (state.frame + 1) then.first
+told state boxes (Err fault) = refuse (number fault.why) fault.nth ∷ []
 
-abbrev pub told_at_end : OpenFrame → List BoxRecord → Ending → List Event
-told_at_end state boxes ending.Clean = open_work state boxes
-told_at_end state boxes (ending.Refused why nth) = refuse (number why) nth ∷ []
+abbrev pub told_at_end : OpenFrame → List BoxRecord → Result ⊤ Fault → List Event
+told_at_end state boxes (Ok _) = open_work state boxes
+told_at_end state boxes (Err fault) = refuse (number fault.why) fault.nth ∷ []
 
 -- the boxes of the open frame behind the record
-abbrev pub boxes_then : List BoxRecord → BoxRecord → Next → List BoxRecord
-boxes_then boxes r (next.Same then) = boxes ++ (r ∷ [])
-boxes_then boxes r (next.Later m then) = r ∷ []
-boxes_then boxes r (next.Refused why nth) = boxes
+abbrev pub boxes_then : List BoxRecord → BoxRecord → Result Next Fault → List BoxRecord
+boxes_then boxes r (Ok (next.Same then)) = boxes ++ (r ∷ [])
+boxes_then boxes r (Ok (next.Later m then)) = r ∷ []
+boxes_then boxes r (Err fault) = boxes
 
-abbrev pub state_then : OpenFrame → Next → OpenFrame
-state_then state (next.Same then) = then
-state_then state (next.Later m then) = then
-state_then state (next.Refused why nth) = state
+abbrev pub state_then : OpenFrame → Result Next Fault → OpenFrame
+state_then state (Ok (next.Same then)) = then
+state_then state (Ok (next.Later m then)) = then
+state_then state (Err fault) = state
 
-abbrev pub goes_on : Next → Bool
-goes_on (next.Same then) = true
-goes_on (next.Later m then) = true
-goes_on (next.Refused why nth) = false
+abbrev pub goes_on : Result Next Fault → Bool
+goes_on (Ok next) = true
+goes_on (Err fault) = false
 
-abbrev pub follow : Run → BoxRecord → Next → Run
+abbrev pub follow : Run → BoxRecord → Result Next Fault → Run
 follow run r n = run_with (run.log ++ told run.state run.boxes n) (goes_on n) (state_then run.state n) (boxes_then run.boxes r n)
 
 unfoldable pub feed : Run → BoxRecord → Run

@@ -1,14 +1,15 @@
 -- THE THEOREMS of the rules. `laws` of proofs/Theorem.antt proves them.
-use Rattle.std.specs.Prelude.{◌≡◌, Bool, true, List, [], ℕ, ◌+◌, ◌-◌, ◌*◌, ◌%◌, ◌≤◌, ◌<◌, ltb, length, take, drop}
+use Rattle.std.specs.Prelude.{◌≡◌, Bool, true, List, [], ℕ, ◌+◌, ◌-◌, ◌*◌, ◌%◌, ◌≤◌, ◌<◌, ltb, length, take, drop, Result, Ok, Err}
 use Rattle.laws.specs.Every.{every}
 use Rattle.records.specs.declared.box_record.BoxRecord.{BoxRecord}
 use Rattle.records.specs.BoxRecord.{box_bytes}
 use Rattle.records.specs.Field.{AreBytes}
 use Rattle.trackbox_stream.specs.declared.rules.OpenFrame.{OpenFrame}
 use Rattle.trackbox_stream.specs.declared.rules.Refusal.{Refusal}
+use Rattle.trackbox_stream.specs.declared.rules.Fault.{Fault}
 use Rattle.trackbox_stream.specs.declared.rules.Next.{Next}
 use Rattle.trackbox_stream.specs.declared.rules.Next.TheVariants as next
-use Rattle.trackbox_stream.specs.Rules.{start, nth_after, judged}
+use Rattle.trackbox_stream.specs.Rules.{start, fault, nth_after, judged}
 use Rattle.trackbox_stream.specs.Stream.{boxes_of, earlier, passing, events, box_records, Frame, printing, trackbox}
 use Rattle.trackbox_stream.specs.Feeding.{fed}
 
@@ -28,10 +29,10 @@ pub record Sound (state : OpenFrame) : Type 0 where
   pub wide : state.frame < frame_numbers
 
 -- what each answer holds to: a record skips fewer than 1000 frames
-pub data Goes : Next → Type 0 where
-  on : {state : OpenFrame} → Sound state → Goes (next.Same state)
-  over : {m : ℕ} {state : OpenFrame} → m < 1000 → Sound state → Goes (next.Later m state)
-  stop : (why : Refusal) (nth : ℕ) → Goes (next.Refused why nth)
+pub data Goes : Result Next Fault → Type 0 where
+  on : {state : OpenFrame} → Sound state → Goes (Ok (next.Same state))
+  over : {m : ℕ} {state : OpenFrame} → m < 1000 → Sound state → Goes (Ok (next.Later m state))
+  stop : (why : Refusal) (nth : ℕ) → Goes (Err (fault why nth))
 
 -- a frame's boxes are those that stand behind the records of earlier frames
 abbrev pub InARow : ℕ → List BoxRecord → Type 0

@@ -5,24 +5,13 @@ ghost use Rattle.trackbox_stream.specs.Boxes.{box_floats, held_then, label_then}
 
 use records::{BOX_VALUES, BoxRecord};
 
-fn put_box(f: &mut [f32], r: BoxRecord)
-    requires { length f.old ≡ box_values }
-    ensures { f.new ≡ box_floats r }
-{
-    f[0] = r.left;
-    f[1] = r.top;
-    f[2] = r.width;
-    f[3] = r.height;
-    f[4] = r.score;
-}
-
 // Stores the record's box in place k, counted from 0; past the places that the slice has, nothing.
 pub fn hold(r: BoxRecord, k: usize, boxes: &mut [f32])
     ensures { boxes.new ≡ held_then r k boxes.old }
 {
     if k < boxes.len() / BOX_VALUES {
         let at = k * BOX_VALUES;
-        put_box(&mut boxes[at..at + BOX_VALUES], r);
+        boxes[at..at + BOX_VALUES].copy_from_slice(&[r.left, r.top, r.width, r.height, r.score]);
     }
 }
 

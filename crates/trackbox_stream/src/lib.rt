@@ -1,8 +1,8 @@
-// The rules of trackbox on a stream of box records: document 01, "When a call is turned down", trackbox. Lent memory holds the boxes of the open frame.
+// The rules of trackbox on a stream of box records: which records pass, and which frames they are of. Lent memory holds the boxes of the open frame.
 #![tactic(auto)]
 
 mod boxes;
 mod rules;
 
 pub use boxes::{hold, hold_label};
-pub use rules::{Ending, Next, OpenFrame, Refusal, close, judge, number, start};
+pub use rules::{Fault, Next, OpenFrame, Refusal, close, judge, start};

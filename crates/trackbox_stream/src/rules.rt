@@ -3,7 +3,7 @@ ghost use Rattle.std.specs.Prelude.{◌≡◌};
 ghost use Rattle.trackbox_stream.specs.Rules as Rules;
 
 // What is known between two records.
-#[derive(Clone, Copy)]
+#[derive(Clone, Copy, Debug, PartialEq, Eq)]
 pub struct OpenFrame {
     // records so far
     pub records: u64,
@@ -15,8 +15,8 @@ pub struct OpenFrame {
     pub boxes: usize,
 }
 
-// Why a stream is turned down: document 01's 41 to 44.
-#[derive(Clone, Copy)]
+// Why a stream is turned down.
+#[derive(Clone, Copy, Debug, PartialEq, Eq)]
 pub enum Refusal {
     // 41
     RecordIncomplete,
@@ -28,32 +28,34 @@ pub enum Refusal {
     TooManyBoxes,
 }
 
-#[derive(Clone, Copy)]
+impl From<Refusal> for u64 {
+    ghost from_gives = { λ why n. n ≡ Rules.number why };
+
+    fn from(why: Refusal) -> u64 {
+        match why {
+            Refusal::RecordIncomplete => 41,
+            Refusal::FrameBack => 42,
+            Refusal::FrameFar => 43,
+            Refusal::TooManyBoxes => 44,
+        }
+    }
+}
+
+// A refusal, and the record that it names, counted from 1.
+#[derive(Clone, Copy, Debug, PartialEq, Eq)]
+pub struct Fault {
+    pub why: Refusal,
+    pub nth: u64,
+}
+
+// What a record that passes means.
+// Kept: either kind passes, so neither is an error of the other.
+#[derive(Clone, Copy, Debug, PartialEq, Eq)]
 pub enum Next {
     // The record is the open frame's, and this is known with it.
     Same(OpenFrame),
     // The record is a later frame's: the open frame is worked, if there is one, then so many empty frames, and this is known with the new frame open.
     Later(u32, OpenFrame),
-    // With the record that is named.
-    Refused(Refusal, u64),
-}
-
-#[derive(Clone, Copy)]
-pub enum Ending {
-    // The open frame is worked, if there is one.
-    Clean,
-    Refused(Refusal, u64),
-}
-
-pub fn number(why: Refusal) -> u64
-    ensures { result ≡ Rules.number why }
-{
-    match why {
-        Refusal::RecordIncomplete => 41,
-        Refusal::FrameBack => 42,
-        Refusal::FrameFar => 43,
-        Refusal::TooManyBoxes => 44,
-    }
 }
 
 pub fn start() -> OpenFrame
@@ -71,32 +73,38 @@ pub fn start() -> OpenFrame
 fn nth_after(records: u64) -> u64
     ensures { result ≡ Rules.nth_after records }
 {
-    if records < 18446744073709551615 {
-        return records + 1;
-    }
-    18446744073709551615
+    records.saturating_add(1)
 }
 
 // What a record of this frame number means.
-pub fn judge(state: OpenFrame, frame: u32) -> Next
+pub fn judge(state: OpenFrame, frame: u32) -> Result<Next, Fault>
     ensures { result ≡ Rules.judged state (Rules.nth_after state.records) frame }
 {
     let nth = nth_after(state.records);
     let previous = state.frame;
     let boxes = state.boxes;
     if (frame == 0) | (frame < previous) {
-        return Next::Refused(Refusal::FrameBack, nth);
+        return Err(Fault {
+            why: Refusal::FrameBack,
+            nth,
+        });
     }
     if 1000 < frame - previous {
-        return Next::Refused(Refusal::FrameFar, nth);
+        return Err(Fault {
+            why: Refusal::FrameFar,
+            nth,
+        });
     }
     if previous < frame {
-        return Next::Later(frame - previous - 1, opened(nth, frame));
+        return Ok(Next::Later(frame - previous - 1, opened(nth, frame)));
     }
     if 64 <= boxes {
-        return Next::Refused(Refusal::TooManyBoxes, nth);
+        return Err(Fault {
+            why: Refusal::TooManyBoxes,
+            nth,
+        });
     }
-    Next::Same(more(state, nth, boxes + 1))
+    Ok(Next::Same(more(state, nth, boxes + 1)))
 }
 
 // A frame with its first record.
@@ -117,19 +125,21 @@ fn more(state: OpenFrame, nth: u64, boxes: usize) -> OpenFrame
 {
     OpenFrame {
         records: nth,
-        frame: state.frame,
-        first: state.first,
         boxes,
+        ..state
     }
 }
 
 // What the end of the input means where so many bytes are left behind the whole records.
-pub fn close(state: OpenFrame, rest: usize) -> Ending
+pub fn close(state: OpenFrame, rest: usize) -> Result<(), Fault>
     ensures { result ≡ Rules.closed (Rules.nth_after state.records) rest }
 {
     let nth = nth_after(state.records);
     if 0 < rest {
-        return Ending::Refused(Refusal::RecordIncomplete, nth);
+        return Err(Fault {
+            why: Refusal::RecordIncomplete,
+            nth,
+        });
     }
-    Ending::Clean
+    Ok(())
 }

@@ -2,22 +2,10 @@
 // The name is printed before the lines. oracle/trackbox/vectors writes stdin and stdout.
 #![tactic(auto)]
 
-ghost use Rattle.std.specs.Prelude.{◌<◌};
-
 use program_io::Streams;
-use trackbox_io::Ran;
 
-fn wide(b: u8) -> u64
-    ensures { result < 256 }
-{
-    b as u64
-}
-
-fn length_of(head: &[u8]) -> u64 {
-    if head.len() < 20 {
-        return 0;
-    }
-    wide(head[16]) + 256 * (wide(head[17]) + 256 * (wide(head[18]) + 256 * wide(head[19])))
+fn length_of(head: &[u8; 20]) -> u64 {
+    u32::from_le_bytes([head[16], head[17], head[18], head[19]]) as u64
 }
 
 fn skip_byte() -> bool {
@@ -27,9 +15,10 @@ fn skip_byte() -> bool {
 
 // Reads what is left of a stream that was turned down.
 fn skip(bytes: u64) {
-    let mut left = bytes;
-    while left > 0 && skip_byte() {
-        left -= 1;
+    for _ in 0..bytes {
+        if !skip_byte() {
+            return;
+        }
     }
 }
 
@@ -42,7 +31,7 @@ fn replay(streams: Streams) -> bool {
     if !(io::write_all(1, &head[0..16]) && io::write_all(1, b"\n")) {
         return false;
     }
-    let Ran::Whole(left) = trackbox_io::run(streams, length_of(&head)) else {
+    let Some(left) = trackbox_io::run(streams, length_of(&head)) else {
         return false;
     };
     skip(left);
@@ -56,8 +45,9 @@ fn main(rt: HostRuntime) {
         output: rt.stdout(),
         errors: rt.stderr(),
     };
-    let mut streams = u64::MAX;
-    while streams > 0 && replay(standard) {
-        streams -= 1;
+    for _ in 0..u64::MAX {
+        if !replay(standard) {
+            return;
+        }
     }
 }

@@ -1,17 +1,16 @@
 -- A line by the tests that the code makes, what a loop that pushes bytes or floats knows, and how many digits a number has. Assumes nothing.
 use mathlib.Core.Path.{◌≡◌, refl, sym, ap, subst, ◌∙◌}
 use mathlib.Core.Bool.{Bool, true, false}
-use mathlib.Core.List.{List, [], ◌∷◌}
+use mathlib.Core.List.{List, [], ◌∷◌, foldl}
 use Prim.Native.Nat.{ℕ, zero, suc, ◌+◌, ◌-◌, ◌^◌, ◌≤◌, ◌<◌}
 use native.Mathlib.Nat.{le_trans, lt_of_not-le, not-le_of_lt, pow-le-pow_right}
 use native.Mathlib.Omega.{arith}
 use native.Mathlib.Numerals.{add-one}
-use lib.ListN.{length, get_or, set, take}
-use lib.Ieee.{Float, nan}
+use lib.ListN.{set, take}
+use lib.Ieee.{Float}
 use borrow.Author.Tests.{lt-ltb, le-ltb}
 use Rattle.io.specs.Digits.{last_digits, IsDigitCount}
-use Rattle.laws.specs.Fold.{fold_list}
-use Rattle.laws.specs.Folding.{Folding, fold_end}
+use Rattle.std.specs.List.{fold}
 use Rattle.laws.specs.Scan.{Scanning, lowest, scan-begin, scan-next, scan-found}
 use Rattle.vectors.specs.declared.line.Line.{Line}
 use Rattle.vectors.specs.Line.{pushed, text, places, spelt, float, floats}
@@ -25,21 +24,18 @@ pub full : (l : Line) (b : ℕ) → 256 ≤ l.used → l ≡ pushed l b
 unfolding pushed
 full l b h = rw (le-ltb l.used 256 h)
 
--- the bytes of a text
-abbrev pub Texting : List ℕ → Line → ℕ → Line → Type 0
-Texting s start k l = Folding (λ r i. pushed r (get_or s i 0)) start (length s) k l
+-- std's `fold` of the bytes of a text, and of floats
+folds : {A B : Type 0} (f : B → A → B) (start : B) (l : List A) → fold f start l ≡ foldl f start l
+folds f start [] = refl
+folds f start (x ∷ xs) = folds f (f start x) xs
 
-pub texted : (s : List ℕ) (start : Line) (k : ℕ) (l : Line) → Texting s start k l → length s ≤ k → l ≡ text start s
+pub texted : (s : List ℕ) (start : Line) → fold pushed start s ≡ text start s
 unfolding text
-texted s start k l w h = fold_end w h ∙ sym (fold_list pushed start s 0)
+texted s start = folds pushed start s
 
--- floats
-abbrev pub Listing : List Float → Line → ℕ → Line → Type 0
-Listing s start k l = Folding (λ r i. float r (get_or s i nan)) start (length s) k l
-
-pub listed : (s : List Float) (start : Line) (k : ℕ) (l : Line) → Listing s start k l → length s ≤ k → l ≡ floats start s
+pub listed : (s : List Float) (start : Line) → fold float start s ≡ floats start s
 unfolding floats
-listed s start k l w h = fold_end w h ∙ sym (fold_list float start s nan)
+listed s start = folds float start s
 
 -- the first k at which a test holds
 module _ (p : ℕ → Bool) (n : ℕ) where

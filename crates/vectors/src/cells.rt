@@ -18,10 +18,7 @@ fn number_of(seed: u64, k: u64) -> u64
 fn word_at(list: &[u64], i: usize) -> u64
     ensures { result ≡ get_or list.now i 0 }
 {
-    if i < list.len() {
-        return list[i];
-    }
-    0
+    list.get(i).copied().unwrap_or(0)
 }
 
 // One of 16 patterns, or one up to `spread` above it.
@@ -34,6 +31,7 @@ fn pattern(r: u64, spread: u64, from: &[u64]) -> u32
 }
 
 // Cell k, which held `old`.
+#[tactic(auto, unfolding(crate::specs::Cells::cell))]
 fn cell(seed: u64, spread: u64, step: u64, from: &[u64], k: u64, old: f32) -> f32
     ensures { result ≡ Cells.cell seed spread step from.now k old }
 {
@@ -48,9 +46,7 @@ fn cell(seed: u64, spread: u64, step: u64, from: &[u64], k: u64, old: f32) -> f3
 pub fn draw(seed: u64, spread: u64, step: u64, from: &[u64], out: &mut [f32])
     ensures { out.new ≡ tab (λ k. Cells.cell seed spread step from.now k (get_or out.old k nan)) (length out.old) }
 {
-    let mut k = 0;
-    while k < out.len() {
-        out[k] = cell(seed, spread, step, from, k as u64, out[k]);
-        k += 1;
+    for (k, held) in out.iter_mut().enumerate() {
+        *held = cell(seed, spread, step, from, k as u64, *held);
     }
 }

@@ -1,6 +1,6 @@
 // Words of standard input: numbers of four bytes, the lowest first, which also stand for the bits of floats. Behind
 // the end of the input every word is 0.
-ghost use Rattle.std.specs.Prelude.{◌≡◌, ◌≤◌, ◌<◌, length, take};
+ghost use Rattle.std.specs.Prelude.{◌≡◌, ◌<◌, length, take};
 ghost use Rattle.std.specs.Float.{nan};
 ghost use Rattle.vectors.specs.Words.{word_of, RestIs};
 
@@ -26,76 +26,53 @@ pub fn word_or(end: u32) -> u32
     word_of(b[0], b[1], b[2], b[3])
 }
 
-// The next float, if number k is one of those that are given.
-fn float_or(k: usize, given: usize, rest: f32) -> f32
-    ensures { given ≤ k → result ≡ rest }
-{
-    if k < given {
-        return float_of(word_or(0));
-    }
-    rest
+// The next number of two words, the lower first.
+fn long() -> u64 {
+    let low = word_or(0);
+    whole(low as u64, word_or(0) as u64)
 }
 
-fn count_or(k: usize, given: usize, rest: u32) -> u32
-    ensures { given ≤ k → result ≡ rest }
-{
-    if k < given {
-        return word_or(0);
-    }
-    rest
-}
+// ---- the next elements fill the front of a slice, `given` of them, and `rest` what is left of it
 
-// The next number of two words, the lower first, if number k is one of those that are given.
-fn long_or(k: usize, given: usize) -> u64
-    ensures { given ≤ k → result ≡ 0 }
+fn fill<T: Copy, F: Fn() -> T>(given: usize, rest: T, next: F, out: &mut [T])
+    requires { F.IsAlwaysCallable next }
+    ensures { (z : T) → RestIs z rest given out.new }
 {
-    if k < given {
-        let low = word_or(0);
-        return whole(low as u64, word_or(0) as u64);
+    for (k, element) in out.iter_mut().enumerate() {
+        *element = if k < given { next() } else { rest };
     }
-    0
 }
-
-// ---- the next words fill the front of a slice, `given` of them, and `rest` what is left of it
 
 pub fn floats(given: usize, rest: f32, out: &mut [f32])
     ensures { RestIs nan rest given out.new }
 {
-    for k in 0..out.len() {
-        out[k] = float_or(k, given, rest);
-    }
+    fill(given, rest, || float_of(word_or(0)), out);
 }
 
 pub fn words(given: usize, rest: u32, out: &mut [u64])
     ensures { RestIs 0 rest given out.new }
 {
-    for k in 0..out.len() {
-        out[k] = count_or(k, given, rest) as u64;
-    }
+    fill(given, rest as u64, || word_or(0) as u64, out);
 }
 
 pub fn counts(given: usize, rest: u32, out: &mut [u32])
     ensures { RestIs 0 rest given out.new }
 {
-    for k in 0..out.len() {
-        out[k] = count_or(k, given, rest);
-    }
+    fill(given, rest, || word_or(0), out);
 }
 
 // Numbers of two words; 0 in what is left of the slice.
 pub fn longs(given: usize, out: &mut [u64])
     ensures { RestIs 0 0 given out.new }
 {
-    for k in 0..out.len() {
-        out[k] = long_or(k, given);
-    }
+    fill(given, 0, long, out);
 }
 
 // The next n bytes, in the front of a slice: that part, lent. Which bytes they are no contract can say.
 pub fn bytes(s: &mut [u8], n: u64) -> &mut [u8]
     ensures { length result.now ≡ length (take n s.old) }
 {
-    let part = lent::bytes(s, n);
+    let part = lent::first(s, n);
     io::read_full(0, part);
     part
 }

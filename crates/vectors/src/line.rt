@@ -44,17 +44,13 @@ impl Line {
     }
 
     // A byte for which there is no room is left out.
-    fn byte(self, b: u8) -> Line
+    #[tactic(auto, unfolding(crate::specs::Line::pushed))]
+    fn byte(mut self, b: u8) -> Line
         ensures { result ≡ Printed.pushed self b }
     {
-        let mut bytes = self.bytes;
-        let used = self.used;
-        if used < ROOM {
-            bytes[used] = b;
-            return Line {
-                bytes,
-                used: used + 1,
-            };
+        if self.used < ROOM {
+            self.bytes[self.used] = b;
+            self.used += 1;
         }
         self
     }
@@ -62,13 +58,7 @@ impl Line {
     pub fn text(self, s: &[u8]) -> Line
         ensures { result ≡ Printed.text self s.now }
     {
-        let mut line = self;
-        let mut k = 0;
-        while k < s.len() {
-            line = line.byte(s[k]);
-            k += 1;
-        }
-        line
+        s.iter().fold(self, |line, &b| line.byte(b))
     }
 
     pub fn number(self, n: u64) -> Line
@@ -98,13 +88,7 @@ impl Line {
     pub fn floats(self, s: &[f32]) -> Line
         ensures { result ≡ Printed.floats self s.now }
     {
-        let mut line = self;
-        let mut k = 0;
-        while k < s.len() {
-            line = line.float(s[k]);
-            k += 1;
-        }
-        line
+        s.iter().fold(self, |line, &x| line.float(x))
     }
 
     pub fn bar(self) -> Line

@@ -6,10 +6,7 @@ pub fn at_most(most: usize, n: u64) -> usize
     ensures upper_bound { result ≤ most }
     ensures value { result ≡ min n most }
 {
-    if n < most as u64 {
-        return n as usize;
-    }
-    most
+    n.min(most as u64) as usize
 }
 
 // The number of two words.

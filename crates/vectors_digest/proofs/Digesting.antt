@@ -1,16 +1,14 @@
--- What a loop that joins the elements of a list to a digest knows. Assumes nothing.
-use mathlib.Core.Path.{◌≡◌, sym, ◌∙◌}
-use mathlib.Core.List.{List}
-use Prim.Native.Nat.{ℕ, ◌≤◌}
-use lib.ListN.{length, get_or}
-use Rattle.laws.specs.Fold.{fold_list}
-use Rattle.laws.specs.Folding.{Folding, fold_end}
+-- std's `fold` of a slice is its digest. Assumes nothing.
+use mathlib.Core.Path.{◌≡◌, refl}
+use mathlib.Core.List.{List, [], ◌∷◌, foldl}
+use Prim.Native.Nat.{ℕ}
+use Rattle.std.specs.List.{fold}
 use Rattle.vectors_digest.specs.Digest.{joined, digest}
 
--- before index k of l, whose default is z, the digest is d
-abbrev pub Digesting : {A : Type 0} → (A → ℕ) → A → List A → ℕ → ℕ → ℕ → Type 0
-Digesting word z l start k d = Folding (λ s i. joined s (word (get_or l i z))) start (length l) k d
+folds : {A : Type 0} (f : ℕ → A → ℕ) (start : ℕ) (l : List A) → fold f start l ≡ foldl f start l
+folds f start [] = refl
+folds f start (x ∷ xs) = folds f (f start x) xs
 
-pub digested : {A : Type 0} (word : A → ℕ) (z : A) (l : List A) (start k d : ℕ) → Digesting word z l start k d → length l ≤ k → d ≡ digest word start l
+pub digested : {A : Type 0} (word : A → ℕ) (start : ℕ) (l : List A) → fold (λ d x. joined d (word x)) start l ≡ digest word start l
 unfolding digest
-digested word z l start k d w h = fold_end w h ∙ sym (fold_list (λ s x. joined s (word x)) start l z)
+digested word start l = folds (λ d x. joined d (word x)) start l

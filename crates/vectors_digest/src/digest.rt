@@ -23,82 +23,35 @@ pub fn float(sum: u64, x: f32) -> u64
     join(sum, word(x))
 }
 
-fn double(sum: u64, x: f64) -> u64
-    ensures { result ≡ joined sum (Floats.wide_word x) }
-{
-    join(sum, wide_word(x))
-}
-
-fn number(sum: u64, n: usize) -> u64
-    ensures { result ≡ joined sum n }
-{
-    join(sum, n as u64)
-}
-
-fn byte(sum: u64, b: u8) -> u64
-    ensures { result ≡ joined sum b }
-{
-    join(sum, b as u64)
-}
-
 // ---- a slice
 
 pub fn floats(start: u64, s: &[f32]) -> u64
     ensures { result ≡ digest Floats.word start s.now }
 {
-    let mut sum = start;
-    let mut k = 0;
-    while k < s.len() {
-        sum = float(sum, s[k]);
-        k += 1;
-    }
-    sum
+    s.iter().fold(start, |sum, &x| join(sum, word(x)))
 }
 
 pub fn doubles(start: u64, s: &[f64]) -> u64
     ensures { result ≡ digest Floats.wide_word start s.now }
 {
-    let mut sum = start;
-    let mut k = 0;
-    while k < s.len() {
-        sum = double(sum, s[k]);
-        k += 1;
-    }
-    sum
+    s.iter().fold(start, |sum, &x| join(sum, wide_word(x)))
 }
 
+// Kept: a fold for each kind of element is one line, where one over a closure would need a clause of what the closure answers.
 pub fn numbers(start: u64, s: &[usize]) -> u64
     ensures { result ≡ digest_of_numbers start s.now }
 {
-    let mut sum = start;
-    let mut k = 0;
-    while k < s.len() {
-        sum = number(sum, s[k]);
-        k += 1;
-    }
-    sum
+    s.iter().fold(start, |sum, &n| join(sum, n as u64))
 }
 
 pub fn words(start: u64, s: &[u64]) -> u64
     ensures { result ≡ digest_of_numbers start s.now }
 {
-    let mut sum = start;
-    let mut k = 0;
-    while k < s.len() {
-        sum = join(sum, s[k]);
-        k += 1;
-    }
-    sum
+    s.iter().fold(start, |sum, &w| join(sum, w))
 }
 
 pub fn bytes(start: u64, s: &[u8]) -> u64
     ensures { result ≡ digest_of_numbers start s.now }
 {
-    let mut sum = start;
-    let mut k = 0;
-    while k < s.len() {
-        sum = byte(sum, s[k]);
-        k += 1;
-    }
-    sum
+    s.iter().fold(start, |sum, &b| join(sum, b as u64))
 }

@@ -1,4 +1,4 @@
-// why FILE FRAME BOX: what became of a box of a frame, in words and numbers. Document 02, N9.
+// why FILE FRAME BOX: what became of a box of a frame, in words and numbers.
 #![tactic(auto)]
 
 use program_io::{Streams, fail, has_argument, write_out};
@@ -6,7 +6,7 @@ use std::env::{Env, FillError};
 use std::fs::{File, Files};
 use std::io::{Error, ErrorKind, Print, Stderr};
 use why_io::{Ran, TEXT_BYTES, run};
-use why_question::{Number, Question, number_of};
+use why_question::{Question, number_of};
 
 fn usage(errors: Stderr) {
     let _ = errors.write_all(
@@ -15,7 +15,7 @@ fn usage(errors: Stderr) {
 }
 
 // An argument as a number.
-fn argument<E: Env>(env: &E, i: usize) -> Number {
+fn argument<E: Env>(env: &E, i: usize) -> Option<u64> {
     let mut word = [0u8; 16];
     let n = program_io::argument(env, i, &mut word);
     number_of(&word[..n])
@@ -31,15 +31,9 @@ fn over(errors: Stderr, frame: u64, last: u32) {
     let _ = eprintln!(errors; "why: the file has no frame {frame}: its last is {last}");
 }
 
-// The first n bytes.
-fn print_front(streams: Streams, n: usize, text: &[u8]) {
-    let k = refusals::smaller(n, text.len());
-    print(streams, &text[..k]);
-}
-
 fn tell(streams: Streams, frame: u64, ran: Ran, text: &[u8]) {
     match ran {
-        Ran::Said(n) => print_front(streams, n, text),
+        Ran::Said(n) => print(streams, &text[..n.min(text.len())]),
         Ran::Over(last) => over(streams.errors, frame, last),
         Ran::Failed => {}
     }
@@ -77,10 +71,10 @@ fn main(rt: HostRuntime) {
     if !has_argument(&rt, 3) | has_argument(&rt, 4) {
         return usage(streams.errors);
     }
-    let Number::Of(frame) = argument(&rt, 2) else {
+    let Some(frame) = argument(&rt, 2) else {
         return usage(streams.errors);
     };
-    let Number::Of(index) = argument(&rt, 3) else {
+    let Some(index) = argument(&rt, 3) else {
         return usage(streams.errors);
     };
     let mut name = [0u8; 4096];

@@ -1,14 +1,14 @@
 // One turn after another: the buffer is filled once its records are taken, and a record or the end is handed on as trackbox does, until the frame asked about is due.
 use crate::asking::{ask, say};
-use program_io::{Input, read_full};
-use records::{BOX_BYTES, BoxAnswer, read_box};
-use refusals::smaller;
+use program_io::read_full;
+use records::BOX_BYTES;
 use std::io::{Read, Stderr};
+use std::ops::ControlFlow;
 use trackbox_feed::{
     Fed, Feed, Item, LENT_BOX_LABELS, LENT_BOXES, LENT_COUNTERS, LENT_DOUBLES, LENT_FLOATS,
     LENT_LABELS, LENT_OUTPUT, LENT_SINGLES,
 };
-use trackbox_progress::{later, needed};
+use trackbox_progress::{item, later, needed};
 use why_question::{Move, Question, decide};
 
 // More than the lines of 64 tracks and one more.
@@ -17,7 +17,8 @@ pub const TEXT_BYTES: usize = 8192;
 // Whole records, so that none lies across the end of the buffer.
 const INPUT_BYTES: usize = 65536 / BOX_BYTES * BOX_BYTES;
 
-#[derive(Clone, Copy)]
+// Kept: three ways to end, each told otherwise.
+#[derive(Clone, Copy, Debug, PartialEq, Eq)]
 pub enum Ran {
     // So many bytes at the front of the text are the answer, or a refusal of the stream.
     Said(usize),
@@ -28,7 +29,8 @@ pub enum Ran {
 }
 
 // What is known between two turns.
-#[derive(Clone, Copy)]
+// Kept: `more` stands beside numbers that hold whatever it says.
+#[derive(Clone, Copy, Debug, PartialEq, Eq)]
 pub struct Progress {
     pub feed: Feed,
     // false once the file's last bytes are read
@@ -37,12 +39,6 @@ pub struct Progress {
     pub got: usize,
     // the buffer's record that is handed on next
     pub next: usize,
-}
-
-#[derive(Clone, Copy)]
-pub enum Stand {
-    Goes(Progress),
-    Ends(Ran),
 }
 
 fn start() -> Progress {
@@ -61,52 +57,33 @@ fn read_on<R: Read>(
     errors: Stderr,
     name: &[u8],
     input: &mut [u8],
-) -> Stand {
+) -> ControlFlow<Ran, Progress> {
     if !((p.got / BOX_BYTES <= p.next) & p.more) {
-        return Stand::Goes(p);
+        return ControlFlow::Continue(p);
     }
-    let feed = p.feed;
     let size = input.len();
-    let Input::Bytes(n) = read_full(from, errors, name, input) else {
-        return Stand::Ends(Ran::Failed);
+    let Some(n) = read_full(from, errors, name, input) else {
+        return ControlFlow::Break(Ran::Failed);
     };
-    Stand::Goes(Progress {
-        feed,
+    ControlFlow::Continue(Progress {
         more: size <= n,
         got: n,
         next: 0,
+        ..p
     })
 }
 
-// Record `next` of the first `got` bytes; behind the last one the end of the file.
-fn item(next: usize, got: usize, input: &[u8]) -> Item {
-    let n = smaller(got, input.len());
-    let BoxAnswer::Read(r) = read_box(&input[..n], next) else {
-        return Item::End(n % BOX_BYTES);
-    };
-    Item::Record(r)
-}
-
 // A record is handed on until it is taken. What a call prints is dropped, but a refusal.
-fn followed(p: Progress, fed: Fed) -> Stand {
-    let more = p.more;
-    let got = p.got;
-    let next = p.next;
+fn followed(p: Progress, fed: Fed) -> ControlFlow<Ran, Progress> {
     match fed {
-        Fed::Taken(feed, _) => Stand::Goes(Progress {
+        Fed::Taken(feed, _) => ControlFlow::Continue(Progress {
             feed,
-            more,
-            got,
-            next: later(next, got),
+            next: later(p.next, p.got),
+            ..p
         }),
-        Fed::Again(feed, _) => Stand::Goes(Progress {
-            feed,
-            more,
-            got,
-            next,
-        }),
-        Fed::Ended(n) => Stand::Ends(Ran::Said(n)),
-        Fed::Short => Stand::Ends(Ran::Said(0)),
+        Fed::Again(feed, _) => ControlFlow::Continue(Progress { feed, ..p }),
+        Fed::Ended(n) => ControlFlow::Break(Ran::Said(n)),
+        Fed::Short => ControlFlow::Break(Ran::Said(0)),
     }
 }
 
@@ -123,11 +100,11 @@ fn pass(
     work64: &mut [f64],
     work32: &mut [f32],
     text: &mut [u8],
-) -> Stand {
+) -> ControlFlow<Ran, Progress> {
     let cells = needed(p.feed.table.count, p.feed.opened.boxes);
     let feed = p.feed;
-    let doubles = smaller(cells, work64.len());
-    let singles = smaller(4 * cells, work32.len());
+    let doubles = cells.min(work64.len());
+    let singles = (4 * cells).min(work32.len());
     let fed = trackbox_feed::take(
         feed,
         item,
@@ -158,12 +135,12 @@ fn explain(
     work64: &mut [f64],
     work32: &mut [f32],
     text: &mut [u8],
-) -> Stand {
+) -> ControlFlow<Ran, Progress> {
     let index = q.index as usize;
     let answer = ask(
         feed, k, index, floats, counters, labels, boxes, box_labels, room, work64, work32,
     );
-    Stand::Ends(Ran::Said(say(q, feed.opened.first, k, answer, text)))
+    ControlFlow::Break(Ran::Said(say(q, feed.opened.first, k, answer, text)))
 }
 
 fn hand(
@@ -179,7 +156,7 @@ fn hand(
     work64: &mut [f64],
     work32: &mut [f32],
     text: &mut [u8],
-) -> Stand {
+) -> ControlFlow<Ran, Progress> {
     let feed = p.feed;
     match decide(q.frame, feed, item) {
         Move::Explain(k) => explain(
@@ -196,7 +173,7 @@ fn hand(
             work32,
             text,
         ),
-        Move::Over => Stand::Ends(Ran::Over(feed.opened.frame)),
+        Move::Over => ControlFlow::Break(Ran::Over(feed.opened.frame)),
         Move::Pass => pass(
             p, item, floats, counters, labels, boxes, box_labels, out, work64, work32, text,
         ),
@@ -219,21 +196,12 @@ fn turn<R: Read>(
     work64: &mut [f64],
     work32: &mut [f32],
     text: &mut [u8],
-) -> Stand {
-    let Stand::Goes(ready) = read_on(p, from, errors, name, input) else {
-        return Stand::Ends(Ran::Failed);
-    };
-    let next = item(ready.next, ready.got, input);
+) -> ControlFlow<Ran, Progress> {
+    let ready = read_on(p, from, errors, name, input)?;
+    let next = item(ready.next, ready.got.min(input.len()), input);
     hand(
         q, ready, next, floats, counters, labels, boxes, box_labels, out, work64, work32, text,
     )
-}
-
-fn ended(stand: Stand) -> Ran {
-    match stand {
-        Stand::Goes(_) => Ran::Failed,
-        Stand::Ends(ran) => ran,
-    }
 }
 
 // What is lent for a file: a buffer, and for 64 tracks and 64 boxes as trackbox does.
@@ -253,7 +221,7 @@ fn turn_over<R: Read>(
     work64: &mut [f64; LENT_DOUBLES],
     work32: &mut [f32; LENT_SINGLES],
     text: &mut [u8],
-) -> Stand {
+) -> ControlFlow<Ran, Progress> {
     turn(
         q, from, errors, name, p, input, floats, counters, labels, boxes, box_labels, out, work64,
         work32, text,
@@ -279,8 +247,7 @@ pub fn run<R: Read>(
     let mut work64 = [0.0f64; LENT_DOUBLES];
     let mut work32 = [0.0f32; LENT_SINGLES];
     let mut now = start();
-    let mut turns = u64::MAX;
-    while 0 < turns {
+    'turns: for _ in 0..u64::MAX {
         let stand = turn_over(
             q,
             from,
@@ -298,11 +265,10 @@ pub fn run<R: Read>(
             &mut work32,
             text,
         );
-        let Stand::Goes(then) = stand else {
-            return ended(stand);
-        };
-        now = then;
-        turns -= 1;
+        match stand {
+            ControlFlow::Continue(then) => now = then,
+            ControlFlow::Break(ran) => return ran,
+        }
     }
     Ran::Failed
 }

@@ -8,29 +8,24 @@ use Rattle.boost_tracker_verdict.specs.Boxes.{Boxes}
 use Rattle.records.specs.declared.box_record.BoxRecord.{BoxRecord}
 use Rattle.trackbox_stream.specs.declared.rules.Next.{Next}
 use Rattle.trackbox_stream.specs.declared.rules.Next.TheVariants as next
-use Rattle.trackbox_stream.specs.declared.rules.Ending.{Ending}
-use Rattle.trackbox_stream.specs.declared.rules.Ending.TheVariants as ending
+use Rattle.trackbox_stream.specs.declared.rules.Fault.{Fault}
+use Rattle.std.specs.Bool.{⊤}
+use Rattle.std.proofs.Common.{Option, Some, None, Result, Ok, Err}
 use Rattle.trackbox_stream.specs.Rules.{nth_after, judged, closed}
-use Rattle.trackbox_feed.specs.declared.frame.Worked.TheVariants.{Done}
 use Rattle.trackbox_feed.specs.declared.feed.Feed.{Feed}
 use Rattle.trackbox_feed.specs.declared.feed.Item.TheVariants as item
-use Rattle.trackbox_feed.specs.Feed.{Lent, work_with, work, Call, call_with, front, work_front, work_open, again_then, next_then, end_then, taken, finished}
+use Rattle.trackbox_feed.specs.Feed.{Lent, done, work_with, work, Call, call_with, front, work_front, work_open, again_then, next_then, end_then, taken, finished}
 use Rattle.why_question.specs.declared.due.Due.{Due}
-use Rattle.why_question.specs.declared.due.Due.TheVariants.{Nothing, Frame}
-use Rattle.why_question.specs.Due.{due_open, due_next, due_end, due}
+use Rattle.why_question.specs.Due.{frame_due, due_open, due_next, due_end, due}
 use Rattle.why_question.specs.Laws.{DueWorks}
 
--- whether a frame is due, and how many boxes it has
-abbrev is_due : Due → ℕ
-is_due Nothing = 0
-is_due (Frame n k) = 1
+-- how many boxes the frame has
+abbrev boxes_of : Option Due → ℕ
+boxes_of None = 0
+boxes_of (Some d) = d.boxes
 
-abbrev boxes_of : Due → ℕ
-boxes_of Nothing = 0
-boxes_of (Frame n k) = k
-
-none-due : (n k : ℕ) → Nothing ≡ Frame n k → ⊥
-none-due n k q = let f : ◌≡◌ {A = ℕ} 0 1 = ap is_due q in omega (arith, f)
+none-due : (n k : ℕ) → None ≡ frame_due n k → ⊥
+none-due n k q = cc
 
 module _ (feed : Feed) (n k : ℕ) (l : Lent) (boxes : Boxes) where
   abbrev the_frame : Lent
@@ -40,26 +35,26 @@ module _ (feed : Feed) (n k : ℕ) (l : Lent) (boxes : Boxes) where
   unfolding work_front
   front_works m q = ap (λ (j : ℕ). (work feed.table feed.opened.first (front j boxes) l).lent) q
 
-  open_works : due_open feed.opened ≡ Frame n k → (work_open feed boxes l).lent ≡ the_frame
+  open_works : due_open feed.opened ≡ frame_due n k → (work_open feed boxes l).lent ≡ the_frame
   unfolding due_open work_open
   open_works = by_cases (eqb feed.opened.frame 0)
     where
-      by_cases : (v : Bool) → cond v Nothing (Frame feed.opened.frame feed.opened.boxes) ≡ Frame n k
-          → (cond v (work_with (Done feed.table 0) l) (work_front feed feed.opened.boxes boxes l)).lent ≡ the_frame
+      by_cases : (v : Bool) → cond v None (frame_due feed.opened.frame feed.opened.boxes) ≡ frame_due n k
+          → (cond v (work_with (done feed.table 0) l) (work_front feed feed.opened.boxes boxes l)).lent ≡ the_frame
       by_cases true q = absurd (none-due n k q)
       by_cases false q = front_works feed.opened.boxes (ap boxes_of q)
 
-  next_works : (r : BoxRecord) (x : Next) → due_next feed.opened x ≡ Frame n k → (next_then feed r x l boxes).lent ≡ the_frame
-  next_works r (next.Same then) q = absurd (none-due n k q)
-  next_works r (next.Later empty then) q = open_works q
-  next_works r (next.Refused why nth) q = absurd (none-due n k q)
+  next_works : (r : BoxRecord) (x : Result Next Fault) → due_next feed.opened x ≡ frame_due n k → (next_then feed r x l boxes).lent ≡ the_frame
+  next_works r (Ok (next.Same then)) q = absurd (none-due n k q)
+  next_works r (Ok (next.Later empty then)) q = open_works q
+  next_works r (Err fault) q = absurd (none-due n k q)
 
-  end_works : (x : Ending) → due_end feed.opened x ≡ Frame n k → (end_then feed x l boxes).lent ≡ the_frame
-  end_works ending.Clean q = open_works q
-  end_works (ending.Refused why nth) q = absurd (none-due n k q)
+  end_works : (x : Result ⊤ Fault) → due_end feed.opened x ≡ frame_due n k → (end_then feed x l boxes).lent ≡ the_frame
+  end_works (Ok tt) q = open_works q
+  end_works (Err fault) q = absurd (none-due n k q)
 
   -- an empty frame before the open one, or what follows
-  call_works : (c : Call) (d : Due) (v : Bool) → (d ≡ Frame n k → c.lent ≡ the_frame) → cond v (Frame (feed.opened.frame - feed.empty) 0) d ≡ Frame n k
+  call_works : (c : Call) (d : Option Due) (v : Bool) → (d ≡ frame_due n k → c.lent ≡ the_frame) → cond v (frame_due (feed.opened.frame - feed.empty) 0) d ≡ frame_due n k
       → (cond v (call_with (again_then feed (work_front feed 0 boxes l).answer) (work_front feed 0 boxes l).lent boxes) c).lent ≡ the_frame
   call_works c d true h q = front_works 0 (ap boxes_of q)
   call_works c d false h q = h q

@@ -11,8 +11,7 @@ use lib.Dec.{leb, ltb}
 use Rattle.laws.specs.Tests.{false_not_true}
 use lib.ListN.{length, get_or, drop, drop_of_length-le}
 use lib.Seq.{drop-cons}
-use Rattle.why_question.specs.declared.question.Number.{Number}
-use Rattle.why_question.specs.declared.question.Number.TheVariants.{Of, Other}
+use Rattle.std.proofs.Common.{Option, Some, None}
 use Rattle.why_question.specs.Question.{longer, where_digits, digits_behind, number_of}
 
 -- at place i: what is left gives the whole
@@ -33,22 +32,22 @@ module _ (word : List ℕ) where
     unfolding digits_behind
     step = ap (digits_behind n) (drop-cons word i 0 h)
 
-    pub read_other : {x : Number} → x ≡ longer n (get_or word i 0) → x ≡ Other → Other ≡ number_of word
-    read_other e q = sym (ap (λ (y : Number). where_digits y (λ (m : ℕ). digits_behind m (drop (suc i) word))) (sym e ∙ q)) ∙ sym step ∙ r
+    pub read_other : {x : Option ℕ} → x ≡ longer n (get_or word i 0) → x ≡ None → None ≡ number_of word
+    read_other e q = sym (ap (λ (y : Option ℕ). where_digits y (λ (m : ℕ). digits_behind m (drop (suc i) word))) (sym e ∙ q)) ∙ sym step ∙ r
 
-    pub read-on : {x : Number} {more : ℕ} → x ≡ longer n (get_or word i 0) → x ≡ Of more → Reading word (i + 1) more
+    pub read-on : {x : Option ℕ} {more : ℕ} → x ≡ longer n (get_or word i 0) → x ≡ Some more → Reading word (i + 1) more
     read-on {x} {more} e q =
-        rw add-one (sym (ap (λ (y : Number). where_digits y (λ (m : ℕ). digits_behind m (drop (suc i) word))) (sym e ∙ q)) ∙ sym step ∙ r)
+        rw add-one (sym (ap (λ (y : Option ℕ). where_digits y (λ (m : ℕ). digits_behind m (drop (suc i) word))) (sym e ∙ q)) ∙ sym step ∙ r)
 
-  pub read-end : (i n : ℕ) → Reading word i n → length word ≤ i → Of n ≡ number_of word
+  pub read-end : (i n : ℕ) → Reading word i n → length word ≤ i → Some n ≡ number_of word
   unfolding digits_behind
   read-end i n r h = sym (ap (digits_behind n) (drop_of_length-le word {i = i} h)) ∙ r
 
-  pub read_none : length word ≡ 0 → Other ≡ number_of word
+  pub read_none : length word ≡ 0 → None ≡ number_of word
   unfolding number_of
   read_none h = by_cases word (omega (arith, h))
     where
-      by_cases : (w : List ℕ) → length w ≤ 0 → Other ≡ number_of w
+      by_cases : (w : List ℕ) → length w ≤ 0 → None ≡ number_of w
       by_cases [] h = refl
       by_cases (b ∷ bs) h = absurd (not-suc-le-zero h)
 

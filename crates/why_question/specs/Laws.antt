@@ -5,10 +5,9 @@ use Rattle.boost_tracker_verdict.specs.Boxes.{Boxes}
 use Rattle.trackbox_feed.specs.declared.feed.Feed.{Feed}
 use Rattle.trackbox_feed.specs.declared.feed.Item.{Item}
 use Rattle.trackbox_feed.specs.Feed.{Lent, has_room, work, front, fed}
-use Rattle.why_question.specs.declared.due.Due.TheVariants.{Frame}
-use Rattle.why_question.specs.Due.{due}
+use Rattle.why_question.specs.Due.{frame_due, due}
 
 abbrev pub DueWorks : Type 0
 DueWorks =
-    (feed : Feed) (i : Item) (n k : ℕ) (l : Lent) (boxes : Boxes) → has_room (length l.memory.output) (length l.text) ≡ true → due feed i ≡ Frame n k
+    (feed : Feed) (i : Item) (n k : ℕ) (l : Lent) (boxes : Boxes) → has_room (length l.memory.output) (length l.text) ≡ true → due feed i ≡ frame_due n k
     → (fed feed i l boxes).lent ≡ (work feed.table feed.opened.first (front k boxes) l).lent

@@ -1,61 +1,59 @@
 // The frame that trackbox works next, by the rules of its stream.
-ghost use Rattle.std.specs.Prelude.{◌≡◌, ◌-◌};
+ghost use Rattle.std.specs.Prelude.{◌≡◌};
 ghost use Rattle.why_question.specs.Due as Spec;
 
 use trackbox_feed::{Feed, Item};
-use trackbox_stream::{Ending, Next, OpenFrame, close, judge};
+use trackbox_stream::{Fault, Next, OpenFrame, close, judge};
 
-#[derive(Clone, Copy)]
-pub enum Due {
-    // no frame, or the stream is turned down
-    Nothing,
-    // Its number, and how many boxes it has: the first so many of those held.
-    Frame(u32, usize),
+// A frame by its number, and how many boxes it has: the first so many of those held.
+#[derive(Clone, Copy, Debug, PartialEq, Eq)]
+pub struct Due {
+    pub frame: u32,
+    pub boxes: usize,
 }
 
-fn due_open(opened: OpenFrame) -> Due
+fn due_open(opened: OpenFrame) -> Option<Due>
     ensures { result ≡ Spec.due_open opened }
 {
     if opened.frame == 0 {
-        return Due::Nothing;
+        return None;
     }
-    Due::Frame(opened.frame, opened.boxes)
+    Some(Due {
+        frame: opened.frame,
+        boxes: opened.boxes,
+    })
 }
 
-fn due_next(opened: OpenFrame, next: Next) -> Due
+fn due_next(opened: OpenFrame, next: Result<Next, Fault>) -> Option<Due>
     ensures { result ≡ Spec.due_next opened next }
 {
     match next {
-        Next::Same(_) => Due::Nothing,
-        Next::Later(_, _) => due_open(opened),
-        Next::Refused(_, _) => Due::Nothing,
+        Ok(Next::Later(_, _)) => due_open(opened),
+        Ok(Next::Same(_)) => None,
+        Err(_) => None,
     }
 }
 
-fn due_end(opened: OpenFrame, ending: Ending) -> Due
+fn due_end(opened: OpenFrame, ending: Result<(), Fault>) -> Option<Due>
     ensures { result ≡ Spec.due_end opened ending }
 {
     match ending {
-        Ending::Clean => due_open(opened),
-        Ending::Refused(_, _) => Due::Nothing,
+        Ok(()) => due_open(opened),
+        Err(_) => None,
     }
 }
 
-// a - b, or 0 where b is larger.
-fn less(a: u32, b: u32) -> u32
-    ensures { result ≡ a - b }
-{
-    if a < b { 0 } else { a - b }
-}
-
-// What a call of `take` with this item works: the empty frames before the open one come first.
-fn next_due(feed: Feed, item: Item) -> Due
+// What a call of `take` with this item works, if it works a frame: the empty frames before the open one come first.
+fn next_due(feed: Feed, item: Item) -> Option<Due>
     ensures { result ≡ Spec.due feed item }
 {
     let opened = feed.opened;
     let empty = feed.empty;
     if 0 < empty {
-        return Due::Frame(less(opened.frame, empty), 0);
+        return Some(Due {
+            frame: opened.frame.saturating_sub(empty),
+            boxes: 0,
+        });
     }
     match item {
         Item::Record(r) => due_next(opened, judge(opened, r.frame)),
@@ -64,7 +62,8 @@ fn next_due(feed: Feed, item: Item) -> Due
 }
 
 // What is done with an item.
-#[derive(Clone, Copy)]
+// Kept: three ways to go on, none of them a refusal.
+#[derive(Clone, Copy, Debug, PartialEq, Eq)]
 pub enum Move {
     // The frame asked about is due, with so many boxes.
     Explain(usize),
@@ -89,11 +88,11 @@ fn onward(feed: Feed, item: Item) -> Move
 pub fn decide(frame: u64, feed: Feed, item: Item) -> Move
     ensures { result ≡ Spec.decide frame feed item }
 {
-    let Due::Frame(n, k) = next_due(feed, item) else {
+    let Some(due) = next_due(feed, item) else {
         return onward(feed, item);
     };
-    if n as u64 == frame {
-        return Move::Explain(k);
+    if due.frame as u64 == frame {
+        return Move::Explain(due.boxes);
     }
     onward(feed, item)
 }

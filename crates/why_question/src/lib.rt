@@ -5,4 +5,4 @@ mod due;
 mod question;
 
 pub use due::{Due, Move, decide};
-pub use question::{Number, Question, number_of};
+pub use question::{Question, number_of};

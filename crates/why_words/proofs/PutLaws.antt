@@ -1,12 +1,10 @@
 -- Texts one behind the other, each of at most so many bytes. Assumes nothing.
-use Rattle.std.proofs.Common.{◌≡◌, ℕ, ◌+◌, ◌-◌, ◌/◌, ◌%◌, ◌<◌, ◌≤◌, Bool, true, false, cond, eqb, leb, List, [], ◌∷◌, ◌++◌, length, take, drop, sym, ap, ◌∙◌, subst, append-nil, zero-add, arith, length-append, length-drop, take-append-drop, length-take, drop-drop, le-leb}
+use Rattle.std.proofs.Common.{◌≡◌, ℕ, ◌+◌, ◌-◌, ◌/◌, ◌%◌, ◌<◌, ◌≤◌, Bool, true, false, cond, eqb, leb, List, [], ◌∷◌, ◌++◌, length, take, drop, sym, ap, ◌∙◌, subst, append-nil, zero-add, Option, Some, None, arith, length-append, length-drop, take-append-drop, length-take, drop-drop, le-leb}
 use lib.Seq.{take-length, drop-length}
 use lib.Ieee.{Float}
 use borrow.Author.Tests.{lt-leb}
 use borrow.Rule.Slice.PartMut.{put_mid}
 use Rattle.laws.specs.Splice.{splice}
-use Rattle.records.specs.declared.Written.{Written}
-use Rattle.records.specs.declared.Written.TheVariants as written
 use Rattle.records_line.specs.Text.{decimal}
 use Rattle.records.specs.Written.{Writes, WritesText}
 use Rattle.records.proofs.Puts.{put-length, put-put, writes, no_write}
@@ -14,8 +12,10 @@ use Rattle.records_line.proofs.Laws.{decimal-most}
 use Rattle.records.proofs.Laws.{text_fitted}
 use Rattle.assoc_boxes.specs.Overlap.{ratio}
 use Rattle.boost_tracker_fate.specs.declared.kinds.Partner.{Partner}
+use Rattle.std.specs.Option.{MatchOption}
 use Rattle.why_words.specs.declared.value.Value.{Value}
-use Rattle.why_words.specs.Words.{value_of, fraction_bytes, fraction, value_text, number, measured, line_most}
+use Rattle.why_words.specs.declared.value.Value.TheVariants as value
+use Rattle.why_words.specs.Words.{above, below, value_of, fraction_bytes, fraction, value_text, number, measured, line_most}
 use Rattle.why_words.specs.Private.{Puts}
 
 module _ {most at next : ℕ} {xs l out : List ℕ} (p : Puts most at xs l next out) where
@@ -43,27 +43,21 @@ puts_none at l h =
 
 -- ---- a number, written into what lies behind `at`
 
-abbrev count_of : Written → ℕ
-count_of (written.Bytes n) = n
-count_of written.Short = 0
+abbrev count_of : Option ℕ → ℕ
+count_of (Some n) = n
+count_of None = 0
 
-not_short : (n : ℕ) → written.Bytes n ≡ written.Short → ⊥
-not_short n q = let z : ◌≡◌ {A = ℕ} 0 1 = cc in omega arith
-
-module _ (n at : ℕ) (l : List ℕ) (room : at + 20 ≤ length l) (w : Written) (vs : List ℕ) (e : WritesText (decimal n) (take (length l - at) (drop at l)) w vs) where
+module _ (n at : ℕ) (l : List ℕ) (room : at + 20 ≤ length l) (w : Option ℕ) (vs : List ℕ) (e : WritesText (decimal n) (take (length l - at) (drop at l)) w vs) where
   behind : take (length l - at) (drop at l) ≡ drop at l
   behind = ap (λ (k : ℕ). take k (drop at l)) (sym (length-drop at l)) ∙ take-length (drop at l)
 
-  fitted : (w ≡ written.Bytes (length (decimal n))) × (vs ≡ splice (drop at l) 0 (decimal n))
+  pub fitted : (w ≡ Some (length (decimal n))) × (vs ≡ splice (drop at l) 0 (decimal n))
   fitted =
       let few = decimal-most n in
       let long = length-drop at l in
       text_fitted (decimal n) (drop at l) w vs (subst (λ (d : List ℕ). WritesText (decimal n) d w vs) behind e) (omega (arith, few, long, room))
 
-  pub decimal-fits : w ≡ written.Short → ⊥
-  decimal-fits q = not_short (length (decimal n)) (sym fitted.0 ∙ q)
-
-  pub decimal-end : {k : ℕ} → w ≡ written.Bytes k → at + k ≤ length l
+  pub decimal-end : {k : ℕ} → w ≡ Some k → at + k ≤ length l
   decimal-end {k} q =
       let few = decimal-most n in
       let is : k ≡ length (decimal n) = ap count_of (sym q ∙ fitted.0) in
@@ -74,7 +68,7 @@ module _ (n at : ℕ) (l : List ℕ) (room : at + 20 ≤ length l) (w : Written)
       ap (λ (r : List ℕ). take at l ++ (vs ++ r)) (ap (λ (k : ℕ). drop k (drop at l)) (sym (length-drop at l)) ∙ drop-length (drop at l))
       ∙ ap (λ (r : List ℕ). take at l ++ r) (append-nil vs)
 
-  pub decimal_puts : {k : ℕ} → w ≡ written.Bytes k → Puts 20 at (decimal n) l (at + k) (put_mid at (length l - at) l vs)
+  pub decimal_puts : {k : ℕ} → w ≡ Some k → Puts 20 at (decimal n) l (at + k) (put_mid at (length l - at) l vs)
   decimal_puts {k} q =
       let is : k ≡ length (decimal n) = ap count_of (sym q ∙ fitted.0) in
       let from : 0 + length (decimal n) ≡ length (decimal n) = zero-add (length (decimal n)) in
@@ -122,10 +116,20 @@ pub share_puts : (p : Partner) {s : Float} {most at next : ℕ} {l out : List �
     → Puts most at (measured ": overlap " (ratio p.intersection p.union)) l next out
 share_puts p {most = most} {at = at} {next = next} {l = l} {out = out} e q = subst (λ (s : Float). Puts most at (measured ": overlap " s) l next out) e q
 
+-- ---- a number that a u64 has, or not
+
+pub above_is : (w : Option ℕ) {v : Value} → MatchOption w (v ≡ value.Beyond) (λ n. v ≡ value.Above n) → v ≡ above w
+above_is (Some n) e = e
+above_is None e = e
+
+pub below_is : (w : Option ℕ) {v : Value} → MatchOption w (v ≡ value.Beyond) (λ n. v ≡ value.Below n) → v ≡ below w
+below_is (Some n) e = e
+below_is None e = e
+
 -- ---- a line
 
-pub line-written : {most next : ℕ} {xs l out : List ℕ} → line_most ≤ length l → Puts most 0 xs l next out → Writes (leb line_most (length l)) 0 xs l (written.Bytes next) out
+pub line-written : {most next : ℕ} {xs l out : List ℕ} → line_most ≤ length l → Puts most 0 xs l next out → Writes (leb line_most (length l)) 0 xs l (Some next) out
 line-written {xs = xs} {l = l} h p = writes (leb line_most (length l)) (le-leb line_most (length l) h) (sym (p.put.ends ∙ zero-add (length xs))) p.put
 
-pub line-short : (xs l : List ℕ) → length l < line_most → Writes (leb line_most (length l)) 0 xs l written.Short l
+pub line-short : (xs l : List ℕ) → length l < line_most → Writes (leb line_most (length l)) 0 xs l None l
 line-short xs l h = no_write 0 xs l (leb line_most (length l)) (lt-leb line_most (length l) h)

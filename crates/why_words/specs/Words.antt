@@ -1,5 +1,5 @@
 -- What is printed of a box: its fate, the track that it was paired with, and its scores, in words and numbers.
-use Rattle.std.specs.Prelude.{◌≡◌, ℕ, ◌+◌, ◌/◌, ◌%◌, ◌^◌, Bool, true, false, cond, List, [] as none, ◌∷◌ as ◌then◌, ◌++◌, take, pos, negsuc, ◌==◌, refl, Float}
+use Rattle.std.specs.Prelude.{◌≡◌, ℕ, ◌+◌, ◌/◌, ◌%◌, ◌^◌, Bool, true, false, cond, List, [] as none, ◌∷◌ as ◌then◌, ◌++◌, take, pos, negsuc, ◌==◌, refl, Float, Option, Some, None}
 use Prim.Native.Char.{code}
 use Prim.Native.String.{String, [], ◌∷◌}
 use Rattle.std.specs.Float.{binary64}
@@ -13,8 +13,6 @@ use Rattle.boost_tracker_fate.specs.declared.kinds.Partner.{Partner}
 use Rattle.boost_tracker_fate.specs.declared.kinds.Explanation.{Explanation}
 use Rattle.why_words.specs.declared.value.Value.{Value}
 use Rattle.why_words.specs.declared.value.Value.TheVariants as value
-use Rattle.why_words.specs.declared.value.Whole.{Whole}
-use Rattle.why_words.specs.declared.value.Whole.TheVariants as wholes
 
 -- the bytes of a text in ASCII
 unfoldable pub ascii : String → List ℕ
@@ -45,16 +43,16 @@ abbrev pub scaled : Float → Float
 scaled x = add binary64 (mul binary64 x thousand) half
 
 -- its whole part, where a u64 has it
-unfoldable pub whole : Float → Whole
-whole w = cond (lt minus_one w) (cond (lt w limit) (wholes.Of (to_unsigned 64 w)) wholes.Beyond) wholes.Beyond
+unfoldable pub whole : Float → Option ℕ
+whole w = cond (lt minus_one w) (cond (lt w limit) (Some (to_unsigned 64 w)) None) None
 
-abbrev pub above : Whole → Value
-above (wholes.Of n) = value.Above n
-above wholes.Beyond = value.Beyond
+abbrev pub above : Option ℕ → Value
+above (Some n) = value.Above n
+above None = value.Beyond
 
-abbrev pub below : Whole → Value
-below (wholes.Of n) = value.Below n
-below wholes.Beyond = value.Beyond
+abbrev pub below : Option ℕ → Value
+below (Some n) = value.Below n
+below None = value.Beyond
 
 unfoldable pub value_of : Float → Value
 value_of x = cond (lt x plus_zero) (below (whole (scaled (neg x)))) (above (whole (scaled x)))

@@ -7,7 +7,6 @@ ghost use Rattle.why_words.specs.Private.{Puts};
 
 use crate::puts::{put_count, put_float, put_word};
 use boost_tracker_why::{Explanation, Fate, Partner};
-use records::Written;
 
 // No line is longer.
 pub const LINE_MOST: usize = 400;
@@ -109,14 +108,14 @@ fn put_explanation(text: &mut [u8], frame: u64, index: u64, e: Explanation) -> u
     put_scores(text, scores, e.score, e.score_dlo, e.score_duo)
 }
 
-// What became of a box of a frame, at the front of the text; nothing where fewer than LINE_MOST bytes are lent.
-pub fn write_explanation(frame: u64, index: u64, e: Explanation, text: &mut [u8]) -> Written
+// What became of a box of a frame, at the front of the text, and how many bytes that is; None and nothing written where fewer than LINE_MOST bytes are lent.
+pub fn write_explanation(frame: u64, index: u64, e: Explanation, text: &mut [u8]) -> Option<usize>
     ensures { Writes (nat_le Words.line_most (length text.old)) 0 (Words.explanation_line frame index e) text.old result text.new }
 {
     if text.len() < LINE_MOST {
-        return Written::Short;
+        return None;
     }
-    Written::Bytes(put_explanation(text, frame, index, e))
+    Some(put_explanation(text, frame, index, e))
 }
 
 fn put_no_box(text: &mut [u8], frame: u64, index: u64, boxes: u64) -> usize
@@ -129,12 +128,13 @@ fn put_no_box(text: &mut [u8], frame: u64, index: u64, boxes: u64) -> usize
     put_word(text, at3, b"\n")
 }
 
-// That a frame of so many boxes has no box of this index; nothing where fewer than LINE_MOST bytes are lent.
-pub fn write_no_box(frame: u64, index: u64, boxes: u64, text: &mut [u8]) -> Written
+// Kept: with write_explanation only the test of the room is the same; a closure that writes the line would need the clause of each line again.
+// That a frame of so many boxes has no box of this index, and how many bytes that is; None and nothing written where fewer than LINE_MOST bytes are lent.
+pub fn write_no_box(frame: u64, index: u64, boxes: u64, text: &mut [u8]) -> Option<usize>
     ensures { Writes (nat_le Words.line_most (length text.old)) 0 (Words.no_box_line frame index boxes) text.old result text.new }
 {
     if text.len() < LINE_MOST {
-        return Written::Short;
+        return None;
     }
-    Written::Bytes(put_no_box(text, frame, index, boxes))
+    Some(put_no_box(text, frame, index, boxes))
 }

@@ -5,26 +5,21 @@ ghost use Rattle.why_words.specs.Words as Words;
 ghost use Rattle.why_words.specs.Private.{Puts};
 
 use crate::value::{Value, value_of};
-use records::Written;
+use records::put_bytes;
 use records_line::write_decimal;
 
 pub(crate) fn put_word(text: &mut [u8], at: usize, word: &[u8]) -> usize
     requires { at + length word.now ≤ length text.old }
     ensures { Puts (length word.now) at word.now text.old result text.new }
 {
-    let end = at + word.len();
-    text[at..end].copy_from_slice(word);
-    end
+    put_bytes(text, at, word)
 }
 
 fn put_decimal(text: &mut [u8], at: usize, n: u64) -> usize
     requires { at + 20 ≤ length text.old }
     ensures { Puts 20 at (decimal n) text.old result text.new }
 {
-    let Written::Bytes(k) = write_decimal(n, &mut text[at..]) else {
-        return at;
-    };
-    at + k
+    at + write_decimal(n, &mut text[at..]).unwrap()
 }
 
 // A word, and a number behind it.

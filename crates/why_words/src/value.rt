@@ -3,7 +3,8 @@ ghost use Rattle.std.specs.Prelude.{◌≡◌};
 ghost use Rattle.why_words.specs.Words as Words;
 
 // So many thousandths, from zero on or below it.
-#[derive(Drop)]
+// Kept: a sign and a size, or neither.
+#[derive(Clone, Copy, Debug, PartialEq, Eq)]
 pub enum Value {
     Above(u64),
     Below(u64),
@@ -18,48 +19,24 @@ fn scaled(x: f32) -> f64
     std::num::f32_to_f64_with_nan(x) * 1000.0 + 0.5
 }
 
-#[derive(Drop)]
-pub enum Whole {
-    Of(u64),
-    Beyond,
-}
-
-// The whole part.
-fn whole_part(w: f64) -> Whole
+// The whole part, where a u64 has it.
+fn whole_part(w: f64) -> Option<u64>
     ensures { result ≡ Words.whole w }
 {
     if w > -1.0 {
         if w < 18446744073709551616.0 {
-            return Whole::Of(std::num::truncating_f64_to_u64(w));
+            return Some(std::num::truncating_f64_to_u64(w));
         }
-        return Whole::Beyond;
+        return None;
     }
-    Whole::Beyond
-}
-
-fn above(w: Whole) -> Value
-    ensures { result ≡ Words.above w }
-{
-    match w {
-        Whole::Of(n) => Value::Above(n),
-        Whole::Beyond => Value::Beyond,
-    }
-}
-
-fn below(w: Whole) -> Value
-    ensures { result ≡ Words.below w }
-{
-    match w {
-        Whole::Of(n) => Value::Below(n),
-        Whole::Beyond => Value::Beyond,
-    }
+    None
 }
 
 pub(crate) fn value_of(x: f32) -> Value
     ensures { result ≡ Words.value_of x }
 {
     if x < 0.0 {
-        return below(whole_part(scaled(-x)));
+        return whole_part(scaled(-x)).map_or(Value::Beyond, Value::Below);
     }
-    above(whole_part(scaled(x)))
+    whole_part(scaled(x)).map_or(Value::Beyond, Value::Above)
 }

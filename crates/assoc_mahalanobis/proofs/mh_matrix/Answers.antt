@@ -1,6 +1,5 @@
 -- `mh_matrix` meets its contract: the sums start as zeros. Assumes nothing.
-use mathlib.Core.Path.{sym, ◌∙◌}
-use lib.Seq.{length-take-le}
+use mathlib.Core.Path.{◌∙◌}
 use Rattle.laws.specs.Tab.{replicate_tab}
 use Rattle.laws.specs.Replicate.{take_replicate}
 use Rattle.floats.specs.Single.{plus_zero}
@@ -8,9 +7,3 @@ use Rattle.assoc_mahalanobis.proofs.mh_matrix.Goals as goal
 
 pub mh_rows-requires : goal.mh_rows-requires
 mh_rows-requires c = (c.requires.room, take_replicate c.args.tracks 255 plus_zero c.requires.few ∙ replicate_tab _ _)
-
-pub slice_bounds-sums-end : goal.slice_bounds-sums-end
-slice_bounds-sums-end c = c.requires.few
-
-pub slice_bounds-mh_rows-end : goal.slice_bounds-mh_rows-end
-slice_bounds-mh_rows-end c = sym (length-take-le _ _ c.requires.few)

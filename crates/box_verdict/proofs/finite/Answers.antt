@@ -1,6 +1,14 @@
--- `box_verdict::finite` meets its contract, by the law of its test. Assumes nothing.
-use Rattle.box_verdict.proofs.FiniteTest.{finite_test}
+-- `box_verdict::finite` meets its contract. Assumes nothing.
+use Rattle.std.proofs.Common.{◌≡◌, refl, ◌∙◌}
+use Rattle.std.specs.Float.{Float, nan, inf, fin, float_is_finite}
+use Rattle.std.specs.Float.Ieee.Scale.{finite}
 use Rattle.box_verdict.proofs.finite.Goals as goal
 
+same : (x : Float) → float_is_finite x ≡ finite x
+unfolding float_is_finite
+same nan = refl
+same (inf s) = refl
+same (fin s m e) = refl
+
 pub returns : goal.returns
-returns c = finite_test _
+returns c = c.is_finite.ensures.value ∙ same _

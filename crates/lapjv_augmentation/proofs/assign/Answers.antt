@@ -20,12 +20,15 @@ slice_bounds-solve-end-then-fits-3 c = sym (length-take-le _ _ (fitting c.args.n
 pub slice_bounds-solve-end-then-fits-4 : goal.slice_bounds-solve-end-then-fits-4
 slice_bounds-solve-end-then-fits-4 c = sym (length-take-le _ _ (fitting c.args.n c.args.cost.now _ _ (sym c.if-fits.true ∙ c.fits.ensures)).square.small)
 
+pub invariant_of-costs : goal.invariant_of-costs
+invariant_of-costs c = record { square = (fitting c.args.n c.args.cost.now _ _ (sym c.if-fits.true ∙ c.fits.ensures)).square }
+
 pub solve-requires : goal.solve-requires
 solve-requires c =
     let a = c.args in
     let w = fitting a.n a.cost.now _ _ (sym c.if-fits.true ∙ c.fits.ensures) in
     let small = w.square.small in
-    (w.square, w.first, w.second, take_replicate a.n 255 0 small, length-take-le _ _ small, length-take-le _ _ small, length-take-le _ _ small, length-take-le _ _ small)
+    (w.first, w.second, take_replicate a.n 255 0 small, length-take-le _ _ small, length-take-le _ _ small, length-take-le _ _ small, length-take-le _ _ small)
 
 pub returns-then-fits : goal.returns-then-fits
 returns-then-fits c =

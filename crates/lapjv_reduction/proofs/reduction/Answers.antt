@@ -16,12 +16,15 @@ slice_bounds-reduce-end c =
     let w = fitting c.args.n c.args.cost.now _ _ (sym c.if-fits.true ∙ c.fits.ensures) in
     sym (length-take-le _ _ (omega (arith, w.square.small)))
 
+pub invariant_of-costs : goal.invariant_of-costs
+invariant_of-costs c = record { square = (fitting c.args.n c.args.cost.now _ _ (sym c.if-fits.true ∙ c.fits.ensures)).square }
+
 pub reduce-requires : goal.reduce-requires
 reduce-requires c =
     let a = c.args in
     let w = fitting a.n a.cost.now _ _ (sym c.if-fits.true ∙ c.fits.ensures) in
     let z = fitting a.n a.cost.now _ _ (sym c.if-fits-2.true ∙ c.fits-then-fits.ensures) in
-    (w.square, z.first, w.first, w.second, z.second, take_replicate a.n 255 true w.square.small)
+    (z.first, w.first, w.second, z.second, take_replicate a.n 255 true w.square.small)
 
 pub returns-then-fits-2 : goal.returns-then-fits-2
 returns-then-fits-2 c =

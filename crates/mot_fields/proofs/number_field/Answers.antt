@@ -1,20 +1,18 @@
 -- `mot_fields::number_field` meets its contract: the first field decides. Assumes nothing.
-use mathlib.Core.Path.{refl, sym}
-use native.Mathlib.Nat.{le_of_lt}
-use lib.Seq.{length-take-le}
-use Rattle.mot_fields.proofs.Returns.{number-alone, no_number, a-number}
+use mathlib.Core.Path.{◌∙◌}
+use Rattle.mot_number.specs.Number.{is_number, decimal_of, f32_of, number_of}
+use Rattle.mot_fields.specs.Reading.{number_field}
+use Rattle.mot_fields.proofs.Returns.{none-follows, no-field, a-field}
 use Rattle.mot_fields.proofs.number_field.Goals as goal
 
-pub returns-then-rest-end : goal.returns-then-rest-end
-returns-then-rest-end c = number-alone _ c.comma-end.result c.comma-end.ensures c.if-rest-end.true
+pub returns-in_err-text : goal.returns-in_err-text
+unfolding number_field
+returns-in_err-text c = rw (none-follows is_number _ c.in_err-text.ensures) c.from_residual.ensures
 
-pub slice_bounds-number_of-end : goal.slice_bounds-number_of-end
-slice_bounds-number_of-end c = sym (length-take-le _ _ (le_of_lt c.if-rest-end.false))
-
-pub returns-in_default : goal.returns-in_default
-returns-in_default c =
-    no_number _ c.comma-end.result c.comma-end.ensures c.if-rest-end.false _ c.in_default.ensures refl
+pub returns-in_err-value : goal.returns-in_err-value
+unfolding number_field number_of
+returns-in_err-value c = c.from_residual-in_err-value.ensures ∙ no-field c.in_ok-text.ensures is_number (λ x. f32_of (decimal_of x)) c.number_of.result c.number_of.ensures c.in_err-value.was
 
 pub returns : goal.returns
-returns c =
-    a-number _ c.comma-end.result c.comma-end.ensures c.if-rest-end.false _ c.in-Value.ensures c.in-Value.value refl
+unfolding number_field number_of
+returns c = a-field c.in_ok-text.ensures is_number (λ x. f32_of (decimal_of x)) c.number_of.result c.number_of.ensures c.in_ok-value.value c.in_ok-value.was

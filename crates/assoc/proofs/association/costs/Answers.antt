@@ -10,6 +10,6 @@ use Rattle.assoc.proofs.association.costs.Goals as goal
 pub returns : goal.returns
 returns c =
     let a = c.args in
-    unlike_set_lem (alike same_label a.box_labels.now a.track_labels.now)
-    (cost_matrix a.params a.detections.now a.corners.now a.track_confidence.now a.detection_confidence.now (cell_at nan a.tracks a.cells.now)) plus_zero a.boxes a.tracks a.cells.now
+    unlike_set_lem (alike same_label a.scene.box_labels.now a.scene.track_labels.now)
+    (cost_matrix a.params a.scene.detections.now a.scene.corners.now a.scene.track_confidence.now a.scene.detection_confidence.now (cell_at nan a.scene.tracks a.cells.now)) plus_zero a.scene.boxes a.scene.tracks a.cells.now
     c.associate_cost.ensures c.set_unlike_cells.ensures

@@ -1,5 +1,4 @@
--- `cost_matrix::cost_row` meets its contract. The loop's invariant: the first j cells are stored, and the others as they were. The measure is what is left of the row.
--- Assumes nothing.
+-- `cost_matrix::cost_row` meets its contract. The loop's invariant: the first j cells are stored, and the others as they were. Assumes nothing.
 use mathlib.Core.Path.{refl, ◌∙◌}
 use native.Mathlib.Nat.{le_refl}
 use lib.Ieee.{nan}

@@ -1,6 +1,4 @@
--- `cost_matrix::cost_row` meets its contract. The loop's invariant: the first j cells are stored, and the others as they were. The measure is what is left of the row.
--- Assumes nothing.
-use Prim.Native.Nat.{◌-◌}
+-- `cost_matrix::cost_row` meets its contract. The loop's invariant: the first j cells are stored, and the others as they were. Assumes nothing.
 use lib.ListN.{length, get_or}
 use lib.Ieee.{nan}
 use Rattle.laws.specs.Tab.{Filling}
@@ -10,7 +8,4 @@ use Rattle.assoc_cost.specs.Cost.{cost_cell}
 use Rattle.assoc.proofs.cost_matrix.cost_row.Given as goal
 
 abbrev pub invariant-loop-j : goal.invariant-loop-j
-invariant-loop-j l = Filling (λ k. cost_cell l.params l.det (box_at l.corners k) (get_or l.detection_confidence l.i plus_zero) (get_or l.track_confidence k plus_zero) (get_or l.initial.row k nan)) l.initial.row (length l.initial.row) l.j l.row
-
-abbrev pub decreases-loop-j : goal.decreases-loop-j
-decreases-loop-j l = length l.initial.row - l.j
+invariant-loop-j l = Filling (λ k. cost_cell l.params l.det (box_at l.scene.corners.now k) (get_or l.scene.detection_confidence.now l.i plus_zero) (get_or l.scene.track_confidence.now k plus_zero) (get_or l.initial.row k nan)) l.initial.row (length l.initial.row) l.j l.row

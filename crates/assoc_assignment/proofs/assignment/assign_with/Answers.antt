@@ -6,25 +6,31 @@ use Rattle.assoc_assignment.specs.Answers.{lent_with}
 use Rattle.assoc_assignment.proofs.ListLaws.{rowed, assignment-done}
 use Rattle.assoc_assignment.proofs.assignment.assign_with.Goals as goal
 
-pub find_partners-answer-requires : goal.find_partners-answer-requires
-find_partners-answer-requires c =
+pub invariant_of-cost : goal.invariant_of-cost
+invariant_of-cost c = let ready = c.requires.ready in record { sized = record { few-rows = ready.few-rows; few-cols = ready.few-cols; long = ready.long-cost } }
+
+pub invariant_of-iou : goal.invariant_of-iou
+invariant_of-iou c = let ready = c.requires.ready in record { sized = record { few-rows = ready.few-rows; few-cols = ready.few-cols; long = ready.long-iou } }
+
+pub find_partners-requires : goal.find_partners-requires
+find_partners-requires c =
     let ready = c.requires.ready in
-    record { sides = record { few-rows = ready.few-rows; few-cols = ready.few-cols; long = ready.long-cost }; square = ready.room-work; rows = c.requires.rows }
+    record { square = ready.room-work; rows = c.requires.rows }
 
 pub list-lists-requires : goal.list-lists-requires
 list-lists-requires c =
     let ready = c.requires.ready in
-    let found = c.find_partners-answer in
-    let rows = found.auto.partner ∙ c.requires.rows in record { sides = record { few-rows = ready.few-rows; few-cols = ready.few-cols; long = ready.long-iou }; rows = rowed _ _ _ _ ready.few-rows ready.few-cols found.ensures.pairs rows; room = ready.room-lists }
+    let found = c.find_partners in
+    let rows = found.auto.partner ∙ c.requires.rows in record { rows = rowed _ _ _ _ ready.few-rows ready.few-cols found.ensures.pairs rows; room = ready.room-lists }
 
-pub returns-in-Refused : goal.returns-in-Refused
-returns-in-Refused c = absurd (partner_not_refused c.find_partners-answer.ensures.accepted c.in-Refused.is)
+pub returns-in_err-counts : goal.returns-in_err-counts
+returns-in_err-counts c = absurd (partner_not_refused c.find_partners.ensures.accepted c.in_err-counts.was)
 
-pub returns-in-Found : goal.returns-in-Found
-returns-in-Found c =
+pub returns : goal.returns
+returns c =
     let a = c.args in
     let ready = c.requires.ready in
-    let found = c.find_partners-answer.ensures in
+    let found = c.find_partners.ensures in
     assignment-done a.cost.now a.nrows a.ncols a.threshold ready.few-rows ready.few-cols (valid_match a.iou.now a.ncols a.threshold)
     (lent_with a.boxes.now a.tracks.now a.detections.now a.left.now a.work.now)
-    (partners-found c.in-Found.is found.pairs) c.list-lists.ensures found.cleared
+    (partners-found c.in_ok-counts.was found.pairs) c.list-lists.ensures found.cleared

@@ -2,7 +2,7 @@
 use native.Mathlib.Omega.{arith}
 use Rattle.assoc_assignment.specs.Assignment.{valid_match}
 use Rattle.assoc_assignment.proofs.MarkLaws.{marked_same}
-use Rattle.assoc_assignment.proofs.ListLaws.{runs, tail-room, left_over}
+use Rattle.assoc_assignment.proofs.ListLaws.{sized_as, runs, tail-room, left_over}
 use Rattle.assoc_assignment.proofs.assignment.leave_with.Goals as goal
 
 pub push_unmarked-a-requires : goal.push_unmarked-a-requires
@@ -14,12 +14,12 @@ push_unmarked-b-requires c = omega (arith, (marked_same c.mark_matched.ensures).
 pub push_rejected-requires : goal.push_rejected-requires
 push_rejected-requires c =
     let asked = c.requires in
-    record { sides = asked.sides; room = tail-room _ _ _ _ asked.sides (runs c.mark_matched.ensures c.push_unmarked-a.ensures c.push_unmarked-b.ensures) asked.room }
+    record { rows = asked.rows; room = tail-room _ _ _ _ (sized_as asked.rows c.args.iou.sized) (runs c.mark_matched.ensures c.push_unmarked-a.ensures c.push_unmarked-b.ensures) asked.room }
 
 pub returns : goal.returns
 returns c =
     let a = c.args in
-    left_over (valid_match a.iou.now a.ncols a.threshold) _ _ _
+    left_over (valid_match a.iou.cells.now a.iou.ncols a.threshold) _ _ _
     (runs c.mark_matched.ensures c.push_unmarked-a.ensures c.push_unmarked-b.ensures) c.push_rejected.ensures
 
 pub mark_matched-requires : goal.mark_matched-requires

@@ -13,5 +13,5 @@ bounds-tracks-j c = omega (arith, c.if-j-ncols.true, c.requires.1)
 pub returns-then-j-ncols : goal.returns-then-j-ncols
 returns-then-j-ncols c = rw (lt-ltb _ _ c.if-j-ncols.true) (record { boxes_are = refl; tracks_are = refl })
 
-pub returns : goal.returns
-returns c = rw (le-ltb _ _ c.if-j-ncols.false) (record { boxes_are = refl; tracks_are = refl })
+pub returns-else-j-ncols : goal.returns-else-j-ncols
+returns-else-j-ncols c = rw (le-ltb _ _ c.if-j-ncols.false) (record { boxes_are = refl; tracks_are = refl })

@@ -1,5 +1,5 @@
--- `assignment::mark_matched` meets its contract. The loop's invariant: what is marked are the boxes and tracks of the pairs of the rows before `i`. The measure is what is left of the rows. Assumes nothing.
-use mathlib.Core.Path.{◌≡◌, sym, ◌∙◌}
+-- `assignment::mark_matched` meets its contract. The loop's invariant: what is marked are the boxes and tracks of the pairs of the rows before `i`. Assumes nothing.
+use mathlib.Core.Path.{◌≡◌, sym}
 use native.Mathlib.Nat.{le_of_eq}
 use native.Mathlib.Omega.{arith}
 use lib.ListN.{length}
@@ -9,33 +9,13 @@ use Rattle.assoc_assignment.proofs.assignment.mark_matched.Goals as goal
 pub loop-i-init : goal.loop-i-init
 loop-i-init c = (omega arith, mark_start _ _ _ c.requires.0 c.requires.1)
 
-pub bounds-partner-i : goal.bounds-partner-i
-bounds-partner-i c = omega (arith, c.loop-i-test.true)
-
-pub overflow_cast-j : goal.overflow_cast-j
-overflow_cast-j c = omega (arith, c.shared_slice_known-in-loop-i-1.given c.loop-i.i)
-
 pub mark-requires : goal.mark-requires
 mark-requires c = let same = marked_same c.loop-i.invariant.1 in (omega (arith, c.loop-i-test.true, same.0), le_of_eq (sym same.1))
-
-pub overflow_add-i : goal.overflow_add-i
-overflow_add-i c = omega (arith, c.loop-i-test.true)
-
-pub loop-i-smaller : goal.loop-i-smaller
-loop-i-smaller c = omega (arith, c.loop-i-test.true)
 
 pub loop-i-preserved : goal.loop-i-preserved
 loop-i-preserved c =
     let loop-test = c.loop-i-test in
-    (omega (arith, loop-test.true), mark_on _ _ _ c.loop-i.invariant.1 loop-test.true c.mark.ensures)
-
-pub shape_of-boxes : goal.shape_of-boxes
-shape_of-boxes c =
-    (marked_same c.loop-i.invariant.1).0 ∙ sym c.requires.0.same
-
-pub shape_of-tracks : goal.shape_of-tracks
-shape_of-tracks c =
-    (marked_same c.loop-i.invariant.1).1 ∙ sym c.requires.1.same
+    (omega (arith, loop-test.true), mark_on _ _ _ c.loop-i.invariant.1 loop-test.true (rw c.from.ensures at c.mark.ensures))
 
 pub returns : goal.returns
 returns c =

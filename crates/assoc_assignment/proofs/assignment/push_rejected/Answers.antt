@@ -7,7 +7,7 @@ use Rattle.assoc_assignment.proofs.assignment.push_rejected.Goals as goal
 pub write_picked-k-requires : goal.write_picked-k-requires
 write_picked-k-requires c =
     let a = c.args in
-    record { sides = c.requires.sides; room = part_room _ a.a a.b a.detections.now a.tracks.now c.requires.room }
+    record { rows = c.requires.rows; room = part_room _ a.a a.b a.detections.now a.tracks.now c.requires.room }
 
 pub offset_bounds-detections-a : goal.offset_bounds-detections-a
 offset_bounds-detections-a c = omega (arith, c.requires.room.boxes_fit)

@@ -1,40 +1,15 @@
--- `assignment::write_picked` meets its contract. The loop's invariant: the picked pairs of the rows before `i` are written, `k` of them. The measure is what is left of the rows. Assumes nothing.
-use native.Mathlib.Omega.{arith}
-use Rattle.assoc_direct.proofs.PairLaws.{wrote_start, wrote_on}
+-- `assignment::write_picked` meets its contract: a row whose pair is not picked has no column. Assumes nothing.
+use Rattle.std.proofs.Common.{rules, sym}
+use lib.ListN.{get_or}
+use Rattle.assoc_assignment.specs.Assignment.{valid_match}
+use Rattle.assoc_assignment.specs.Private.{chosen, picked}
 use Rattle.assoc_assignment.proofs.ListLaws.{picked-room, picked_wrote}
 use Rattle.assoc_assignment.proofs.assignment.write_picked.Goals as goal
 
-pub loop-i-init : goal.loop-i-init
-loop-i-init c = (omega arith, wrote_start _ _ _ _)
-
-pub bounds-partner-i : goal.bounds-partner-i
-bounds-partner-i c = omega (arith, c.loop-i-test.true)
-
-pub overflow_cast-j : goal.overflow_cast-j
-overflow_cast-j c = omega (arith, c.shared_slice_known-in-loop-i-1.given c.loop-i.i)
-
-pub pick-column-requires : goal.pick-column-requires
-pick-column-requires c =
-    record { sides = c.requires.sides; row = c.loop-i-test.true }
-
-pub overflow_add-i : goal.overflow_add-i
-overflow_add-i c = omega (arith, c.loop-i-test.true)
-
-pub loop-i-smaller : goal.loop-i-smaller
-loop-i-smaller c = omega (arith, c.loop-i-test.true)
-
-pub loop-i-preserved : goal.loop-i-preserved
-loop-i-preserved c =
-    let loop-test = c.loop-i-test in
-    let room = picked-room _ _ c.args.partner.now c.requires.room in
-    (omega (arith, loop-test.true), wrote_on _ _ _ _ c.loop-i.invariant.1 loop-test.true room.boxes_fit room.tracks_fit (rw c.pick-column.ensures at c.put_pair-k.ensures))
-
-pub shape_of-boxes : goal.shape_of-boxes
-shape_of-boxes c = c.loop-i.invariant.1.boxes_are.same
-
-pub shape_of-tracks : goal.shape_of-tracks
-shape_of-tracks c = c.loop-i.invariant.1.tracks_are.same
-
 pub returns : goal.returns
 returns c =
-    picked_wrote _ _ c.args.partner.now (omega (arith, c.loop-i-test.false, c.loop-i.invariant.0)) c.loop-i.invariant.1
+    let a = c.args in
+    let iou = a.iou in
+    picked_wrote _ _ a.partner.now (sym c.requires.rows)
+    (c.put_pairs.ensures (λ i. picked (λ p. chosen a.wanted (valid_match iou.cells.now iou.ncols a.threshold p)) iou.ncols i (get_or a.partner.now i 0)) (λ i j h k. search rules)
+    (rw c.requires.rows at (picked-room _ _ a.partner.now c.requires.room)))

@@ -18,7 +18,7 @@ slice_bounds-is_direct_with-end c =
 pub is_direct_with-requires : goal.is_direct_with-requires
 is_direct_with-requires c =
     let sides = sized _ _ _ (sym c.is_matrix.ensures ∙ c.if-is_matrix.true) in
-    record { sides = sides; zeros = clean c.args.tracks 255 0 sides.few-cols }
+    clean c.args.tracks 255 0 sides.few-cols
 
 pub returns-then-is_matrix : goal.returns-then-is_matrix
 returns-then-is_matrix c =
@@ -26,3 +26,6 @@ returns-then-is_matrix c =
 
 pub returns : goal.returns
 returns c = undecided _ _ _ _ c.is_matrix.ensures c.if-is_matrix.false
+
+pub invariant_of-cost : goal.invariant_of-cost
+invariant_of-cost c = record { sized = sized _ _ _ (sym c.is_matrix.ensures ∙ c.if-is_matrix.true) }

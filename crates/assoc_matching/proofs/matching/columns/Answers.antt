@@ -1,4 +1,4 @@
--- `matching::columns` meets its contract. The loop's invariant: the rows before `i` have their columns. The measure is what is left of the rows. Assumes nothing.
+-- `matching::columns` meets its contract. The loop's invariant: the rows before `i` have their columns. Assumes nothing.
 use Rattle.std.proofs.Common.{refl, le_refl, arith}
 use Rattle.laws.specs.Tab.{fill_start, fill_on, fill_whole}
 use Rattle.assoc_matching.proofs.matching.columns.Goals as goal

@@ -6,17 +6,17 @@ use Rattle.assoc_matching.proofs.matching.solve_with.Goals as goal
 
 pub cost_square-requires : goal.cost_square-requires
 cost_square-requires c =
-    let few = side-few c.requires.sides c.requires.square.side in
-    record { sides = c.requires.sides; square = record { few-rows = few; few-cols = few; long = c.requires.square.long } }
+    let few = side-few c.args.cost.sized c.requires.square.side in
+    record { few-rows = few; few-cols = few; long = c.requires.square.long }
 
 pub returns-in_default : goal.returns-in_default
 returns-in_default c =
-    absurd (got-none (got _ _ _ c.requires.sides c.requires.square c.cost_square.ensures c.lapjv.ensures) c.in_default.is)
+    absurd (got-none (got _ _ _ c.args.cost.sized c.requires.square c.cost_square.ensures c.lapjv.ensures) c.in_default.is)
 
 pub columns-requires : goal.columns-requires
 columns-requires c =
-    (omega (arith, c.lapjv.auto.x, c.requires.square.long-x, c.requires.square.side, le-max_left c.args.nrows c.args.ncols, c.requires.rows), c.requires.sides.few-cols)
+    (omega (arith, c.lapjv.auto.x, c.requires.square.long-x, c.requires.square.side, le-max_left c.args.cost.nrows c.args.cost.ncols, c.requires.rows), c.args.cost.sized.few-cols)
 
 pub returns : goal.returns
 returns c =
-    got-some (got _ _ _ c.requires.sides c.requires.square c.cost_square.ensures c.lapjv.ensures) c.in-Assigned.is c.columns.ensures c.requires.rows
+    got-some (got _ _ _ c.args.cost.sized c.requires.square c.cost_square.ensures c.lapjv.ensures) c.in-Ok.is c.columns.ensures c.requires.rows

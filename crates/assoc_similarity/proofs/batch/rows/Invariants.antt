@@ -1,13 +1,7 @@
--- `batch::rows` meets its contract. The loop's invariant: the first i rows are stored, the next starts at `at`, and the other cells are as they were. The measure is the number of rows left.
--- Assumes nothing.
-use Prim.Native.Nat.{◌-◌}
-use Rattle.laws.specs.Tab.{tab}
-use Rattle.laws.specs.Grid.{Rowing}
-use Rattle.assoc_similarity.specs.Private.{measured_batch}
+-- The invariant of `batch::rows`: the rows before the one at hand are filled, and the other cells are as they were. Assumes nothing.
+use Rattle.cells.specs.Filled.{RowsFilled}
+use Rattle.assoc_similarity.specs.Overlap.{box_at}
 use Rattle.assoc_similarity.proofs.batch.rows.Given as goal
 
 abbrev pub invariant-loop-i : goal.invariant-loop-i
-invariant-loop-i l = Rowing (λ k. tab (measured_batch l.of l.detections l.corners l.confidences k) l.tracks) l.boxes l.tracks l.initial.out l.i l.at l.out
-
-abbrev pub decreases-loop-i : goal.decreases-loop-i
-decreases-loop-i l = l.boxes - l.i
+invariant-loop-i g l = RowsFilled (λ i j _. goal.F-post g l.measure (box_at l.detections i) j) l.i l.tracks l.initial.out l.out

@@ -1,14 +1,12 @@
--- `batch::soft_biou_batch` meets its contract: a refused call hands the verdict back, and an accepted one stores the rows. Assumes nothing.
+-- `batch::soft_biou_batch` meets its contract: an accepted call has the sizes of its matrix, and each cell is what the closure says. Assumes nothing.
 use mathlib.Core.Path.{sym, ◌∙◌}
+use Rattle.std.proofs.Common.{rules}
+use lib.Ieee.{nan}
+use Rattle.cells.proofs.RowLaws.{filled_grid}
 use Rattle.assoc_sizes.proofs.Verdicts.{ready-soft}
 use Rattle.assoc_similarity.proofs.batch.soft_biou_batch.Goals as goal
 
-pub returns-in_default : goal.returns-in_default
-returns-in_default c = record { answer = c.of_confidences-verdict.ensures; cells = rw c.in_default.is }
-
-pub rows-requires : goal.rows-requires
-rows-requires c = ready-soft _ _ _ _ _ _ (sym c.of_confidences-verdict.ensures ∙ c.in-Accepted.is)
-
-pub returns : goal.returns
-returns c =
-    record { answer = c.of_confidences-verdict.ensures; cells = rw c.in-Accepted.is c.rows.ensures }
+pub returns-clause-cells : goal.returns-clause-cells
+returns-clause-cells c =
+    let fit = ready-soft _ _ _ _ _ _ (sym c.of_confidences.ensures ∙ c.in_ok-of_confidences.was) in
+    filled_grid nan _ c.rows.ensures fit.room (λ i j hi hj k. search rules)

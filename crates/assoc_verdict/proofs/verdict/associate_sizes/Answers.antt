@@ -6,20 +6,20 @@ use Rattle.assoc_verdict.specs.Verdict.{associate_sizes}
 use Rattle.assoc_verdict.proofs.Laws.{sizes_rest}
 use Rattle.assoc_verdict.proofs.verdict.associate_sizes.Goals as goal
 
-pub returns-then-boxes-tracks : goal.returns-then-boxes-tracks
+pub returns-then-lengths : goal.returns-then-lengths
 unfolding associate_sizes
-returns-then-boxes-tracks c = rw c.if-boxes-tracks.true
+returns-then-lengths c = rw c.if-lengths.true
 
-pub overflow_mul-boxes : goal.overflow_mul-boxes
-overflow_mul-boxes c = let low = few-sides _ _ c.if-boxes-tracks.false in record { fits = sides_fit low.0 low.1 }
+pub overflow_mul-lengths : goal.overflow_mul-lengths
+overflow_mul-lengths c = let low = few-sides _ _ c.if-lengths.false in record { fits = sides_fit low.0 low.1 }
 
 pub returns-then-params-mahalanobis : goal.returns-then-params-mahalanobis
 unfolding associate_sizes
-returns-then-params-mahalanobis c = rw (c.if-boxes-tracks.false, c.if-params-mahalanobis.true)
+returns-then-params-mahalanobis c = rw (c.if-lengths.false, c.if-params-mahalanobis.true)
 
-pub returns-then-box_labels-boxes : goal.returns-then-box_labels-boxes
+pub returns-then-box_labels-lengths : goal.returns-then-box_labels-lengths
 unfolding associate_sizes
-returns-then-box_labels-boxes c = rw (c.if-boxes-tracks.false, c.if-params-mahalanobis.false, c.if-box_labels-boxes.true)
+returns-then-box_labels-lengths c = rw (c.if-lengths.false, c.if-params-mahalanobis.false, c.if-box_labels-lengths.true)
 
 pub returns : goal.returns
-returns c = c.within_verdict.ensures ∙ sizes_rest _ _ _ _ _ _ _ _ _ _ _ _ _ c.if-boxes-tracks.false c.if-params-mahalanobis.false c.if-box_labels-boxes.false
+returns c = c.within_verdict.ensures ∙ sizes_rest _ _ _ _ _ _ _ _ _ _ _ _ _ c.if-lengths.false c.if-params-mahalanobis.false c.if-box_labels-lengths.false

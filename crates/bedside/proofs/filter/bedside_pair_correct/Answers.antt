@@ -4,4 +4,4 @@ use Rattle.bedside_answers.specs.Filter.{in_c}
 use Rattle.bedside.proofs.filter.bedside_pair_correct.Goals as goal
 
 pub returns : goal.returns
-returns c = c.answer.ensures ∙ ap in_c c.correct.ensures
+returns c = c.from.ensures ∙ ap in_c c.correct.ensures

@@ -3,4 +3,4 @@ use Rattle.bedside.proofs.ForgetLaws.{forget_in-c}
 use Rattle.bedside.proofs.forget.bedside_forget.Goals as goal
 
 pub returns : goal.returns
-returns c = forget_in-c _ c.of_forget.ensures c.forget.ensures
+returns c = forget_in-c _ c.from.ensures c.forget.ensures

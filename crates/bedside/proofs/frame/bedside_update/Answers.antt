@@ -3,4 +3,4 @@ use Rattle.bedside.proofs.FrameLaws.{update-in-c}
 use Rattle.bedside.proofs.frame.bedside_update.Goals as goal
 
 pub returns : goal.returns
-returns c = update-in-c _ c.of_update.ensures c.update.ensures
+returns c = update-in-c _ c.from.ensures c.update.ensures

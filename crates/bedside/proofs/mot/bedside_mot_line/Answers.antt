@@ -3,4 +3,4 @@ use Rattle.bedside.proofs.MotLaws.{line-in-c}
 use Rattle.bedside.proofs.mot.bedside_mot_line.Goals as goal
 
 pub returns : goal.returns
-returns c = line-in-c _ _ _ c.of_line.ensures c.mot_line.ensures
+returns c = line-in-c _ _ _ c.from.ensures c.mot_line.ensures

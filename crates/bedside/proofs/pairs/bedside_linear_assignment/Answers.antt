@@ -3,4 +3,4 @@ use Rattle.bedside.proofs.PairLaws.{assignment-in-c}
 use Rattle.bedside.proofs.pairs.bedside_linear_assignment.Goals as goal
 
 pub returns : goal.returns
-returns c = let call = c.linear_assignment in assignment-in-c call.result _ c.of_assignment.ensures call.ensures
+returns c = let call = c.linear_assignment in assignment-in-c call.result _ c.from.ensures call.ensures

@@ -3,4 +3,4 @@ use Rattle.bedside.proofs.PairLaws.{match_in-c}
 use Rattle.bedside.proofs.pairs.bedside_match_detections.Goals as goal
 
 pub returns : goal.returns
-returns c = match_in-c _ c.of_match.ensures c.match_detections.ensures
+returns c = match_in-c _ c.from.ensures c.match_detections.ensures

@@ -3,4 +3,4 @@ use Rattle.bedside.proofs.FrameLaws.{why_in-c}
 use Rattle.bedside.proofs.why.bedside_why.Goals as goal
 
 pub returns : goal.returns
-returns c = why_in-c _ c.of_why.ensures c.why.ensures
+returns c = why_in-c _ c.from.ensures c.why.ensures

@@ -1,12 +1,9 @@
--- The answers of `rows::largest`. The invariant says that `most` is the largest of `start` and the first j cells. Assumes nothing.
-use Rattle.laws.specs.Folding.{fold_end, fold_on, fold_start}
+-- The answers of `rows::largest`. The invariant says that `most` is the largest of `start` and the cells before the one at hand. Assumes nothing.
+use Rattle.laws.specs.Folding.{fold_on, fold_start}
 use Rattle.boost_tracker_boosts.proofs.rows.largest.Goals as goal
 
-pub loop-j-preserved : goal.loop-j-preserved
-loop-j-preserved c = fold_on c.loop-j.invariant c.loop-j-test.true c.max-most.ensures
+pub loop-cell-preserved : goal.loop-cell-preserved
+loop-cell-preserved c = fold_on c.loop-cell.invariant c.loop-cell-test.true c.max-most.ensures
 
-pub loop-j-init : goal.loop-j-init
-loop-j-init c = fold_start
-
-pub returns : goal.returns
-returns c = fold_end c.loop-j.invariant c.loop-j-test.false
+pub loop-cell-init : goal.loop-cell-init
+loop-cell-init c = fold_start

@@ -14,6 +14,6 @@ returns-then-rich c =
     rw c.if-rich.true
     (matrix_filled (mh_dist_similarity w.distance.now one w.boxes w.tracks) w.boxes w.tracks w.distance.now (c.mh_dist_similarity_over.ensures.answer ∙ accepted-cells _ _ _ c.requires) c.mh_dist_similarity_over.ensures.cells)
 
-pub returns : goal.returns
+pub returns-else-rich : goal.returns-else-rich
 unfolding mhd_left
-returns c = rw c.if-rich.false
+returns-else-rich c = rw c.if-rich.false

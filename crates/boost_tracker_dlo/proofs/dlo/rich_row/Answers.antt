@@ -10,8 +10,5 @@ loop-j-preserved c = let inv = c.loop-j.invariant in fill_on _ _ _ inv c.loop-j-
 pub loop-j-init : goal.loop-j-init
 loop-j-init c = fill_start _ _ _
 
-pub shape_of-row : goal.shape_of-row
-shape_of-row c = c.loop-j.invariant.same
-
 pub returns : goal.returns
 returns c = fill_whole _ _ _ c.loop-j.invariant c.loop-j-test.false refl

@@ -9,7 +9,7 @@ returns-then-corrected c =
     rw c.if-corrected.true
     (row-filled (shape_similarity_v2 c.args.det.now c.args.trks.now) _ c.args.row.now (c.shape_similarity_v2.ensures.answer ∙ one-accepted c.requires) c.shape_similarity_v2.ensures.cells refl)
 
-pub returns : goal.returns
-returns c =
+pub returns-else-corrected : goal.returns-else-corrected
+returns-else-corrected c =
     rw c.if-corrected.false
     (row-filled (shape_similarity_v1 c.args.det.now c.args.trks.now) _ c.args.row.now (c.shape_similarity_v1.ensures.answer ∙ one-accepted c.requires) c.shape_similarity_v1.ensures.cells refl)

@@ -1,5 +1,4 @@
--- The invariants and measures of `duo::boost_candidates`. The loop's invariant: of the indices before i the candidates are pushed, k of them. The measure is the number of boxes left. Assumes nothing.
-use Prim.Native.Nat.{◌-◌}
+-- The invariant of `duo::boost_candidates`. The loop's invariant: of the indices before i the candidates are pushed, k of them. Assumes nothing.
 use lib.Ieee.{nan}
 use lib.ListN.{length}
 use Rattle.boost_tracker_duo.specs.Duo.{is_candidate}
@@ -9,6 +8,3 @@ use Rattle.boost_tracker_duo.proofs.duo.boost_candidates.Given as goal
 
 abbrev pub invariant-loop-i : goal.invariant-loop-i
 invariant-loop-i l = Collecting (is_candidate (cell_at nan l.tracks l.distance) l.thresh l.tracks l.scores) l.initial.out (length l.scores) l.i l.k l.out
-
-abbrev pub decreases-loop-i : goal.decreases-loop-i
-decreases-loop-i l = length l.scores - l.i

@@ -1,7 +1,7 @@
--- `emission::emit` meets its contract. The loop's invariant: of the tracks before i the records of those put out are written, w of them. The measure is what is left of the tracks. Assumes nothing.
+-- `emission::emit` meets its contract. The loop's invariant: of the tracks before i the records of those put out are written, w of them. Assumes nothing.
 use mathlib.Core.Bool.{Bool}
 use mathlib.Core.List.{List}
-use Prim.Native.Nat.{ℕ, ◌-◌, ◌/◌, min}
+use Prim.Native.Nat.{ℕ, ◌/◌, min}
 use lib.ListN.{length, get_or}
 use lib.Ieee.{Float}
 use Rattle.laws.specs.Kept.{Keeping}
@@ -21,6 +21,3 @@ Emitting f c labels held frame hits cap out₀ n i w out =
 
 abbrev pub invariant-loop-i : goal.invariant-loop-i
 invariant-loop-i l = Emitting l.floats l.counters l.labels l.held l.frame l.hits l.cap l.initial.out l.n l.i l.w l.out
-
-abbrev pub decreases-loop-i : goal.decreases-loop-i
-decreases-loop-i l = l.n - l.i

@@ -11,13 +11,13 @@ pub returns-then-pair-pair_boxes : goal.returns-then-pair-pair_boxes
 returns-then-pair-pair_boxes c = lot-paired c.args.retained c.args.d c.args.rejected c.args.pair_boxes.now c.args.pair_tracks.now c.args.unmatched.now c.args.left.now c.if-not-retained.false c.place_in-pair.ensures c.if-pair-pair_boxes.true c.number_at.ensures
 
 pub returns-then-place-alone : goal.returns-then-place-alone
-returns-then-place-alone c = lot-alone c.args.retained c.args.d c.args.rejected c.args.pair_boxes.now c.args.pair_tracks.now c.args.unmatched.now c.args.left.now c.if-not-retained.false c.place_in-pair.ensures c.if-pair-pair_boxes.false c.place_in-place.ensures c.less-alone.ensures c.if-place-alone.true
+returns-then-place-alone c = lot-alone c.args.retained c.args.d c.args.rejected c.args.pair_boxes.now c.args.pair_tracks.now c.args.unmatched.now c.args.left.now c.if-not-retained.false c.place_in-pair.ensures c.if-pair-pair_boxes.false c.place_in-place.ensures c.saturating_sub-alone.ensures c.if-place-alone.true
 
 pub overflow_add-at : goal.overflow_add-at
 overflow_add-at c =
     let a = c.args in
-    omega (arith, c.less.ensures, c.less-alone.ensures, c.place_in-place.ensures, place-most a.d a.unmatched.now, c.ranges)
+    omega (arith, c.saturating_sub.ensures, c.saturating_sub-alone.ensures, c.place_in-place.ensures, place-most a.d a.unmatched.now, c.ranges)
 
 pub returns : goal.returns
 returns c = lot-refused c.args.retained c.args.d c.args.rejected c.args.pair_boxes.now c.args.pair_tracks.now c.args.unmatched.now c.args.left.now
-    c.if-not-retained.false c.place_in-pair.ensures c.if-pair-pair_boxes.false c.place_in-place.ensures c.less-alone.ensures c.if-place-alone.false c.less.ensures c.number_at-2.ensures
+    c.if-not-retained.false c.place_in-pair.ensures c.if-pair-pair_boxes.false c.place_in-place.ensures c.saturating_sub-alone.ensures c.if-place-alone.false c.saturating_sub.ensures c.number_at-2.ensures

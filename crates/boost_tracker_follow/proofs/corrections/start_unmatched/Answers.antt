@@ -1,4 +1,4 @@
--- `corrections::start_unmatched` meets its contract. The loop's invariant: the first k boxes have their tracks behind those held, with the ids after `last` up to `id`. The measure is the number of boxes left. Assumes nothing.
+-- `corrections::start_unmatched` meets its contract. The loop's invariant: the first k boxes have their tracks behind those held, with the ids after `last` up to `id`. Assumes nothing.
 use native.Mathlib.Omega.{arith}
 use Rattle.boost_tracker_follow.proofs.FollowLaws.{start-start, start-on, start-end}
 use Rattle.boost_tracker_follow.proofs.corrections.start_unmatched.Goals as goal
@@ -21,26 +21,8 @@ loop-k-init c = let a = c.args in start-start a.last a.corners.now a.unmatched.n
 pub overflow_add-id : goal.overflow_add-id
 overflow_add-id c = omega (arith, c.loop-k-test.true, c.loop-k.invariant.id_is, c.requires.sizes.0, c.requires.sizes.1)
 
-pub offset_bounds-unmatched-k : goal.offset_bounds-unmatched-k
-offset_bounds-unmatched-k c = omega (arith, c.loop-k-test.true)
-
-pub bounds-unmatched-k : goal.bounds-unmatched-k
-bounds-unmatched-k c = omega (arith, c.loop-k-test.true)
-
 pub det-requires : goal.det-requires
 det-requires c = c.requires.within c.loop-k.k c.loop-k-test.true
 
 pub overflow_add-held : goal.overflow_add-held
 overflow_add-held c = omega (arith, c.loop-k-test.true, c.requires.sizes.0)
-
-pub overflow_add-k : goal.overflow_add-k
-overflow_add-k c = omega (arith, c.loop-k-test.true)
-
-pub loop-k-smaller : goal.loop-k-smaller
-loop-k-smaller c = omega (arith, c.loop-k-test.true)
-
-pub shape_of-floats : goal.shape_of-floats
-shape_of-floats c = c.loop-k.invariant.same-f
-
-pub shape_of-counters : goal.shape_of-counters
-shape_of-counters c = c.loop-k.invariant.same-c

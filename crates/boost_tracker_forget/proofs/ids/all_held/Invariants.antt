@@ -1,9 +1,9 @@
--- `ids::all_held` meets its contract. The loop's invariant: the ids from i on decide. The measure is what is left of the list. Assumes nothing.
+-- `ids::all_held` meets its contract. The loop's invariant: the ids from there on decide. Assumes nothing.
 use mathlib.Core.Path.{◌≡◌}
 use mathlib.Core.Bool.{Bool}
 use mathlib.Core.List.{List}
-use Prim.Native.Nat.{ℕ, ◌-◌}
-use lib.ListN.{length, drop}
+use Prim.Native.Nat.{ℕ}
+use lib.ListN.{drop}
 use lib.Ieee.{Float}
 use Rattle.laws.specs.Elem.{elem}
 use Rattle.laws.specs.Every.{every}
@@ -13,8 +13,5 @@ use Rattle.boost_tracker_forget.proofs.ids.all_held.Given as goal
 abbrev pub is_held : List Float → List ℕ → ℕ → ℕ → Bool
 is_held floats counters held id = elem id (ids_of (tracks floats counters held))
 
-abbrev pub invariant-loop-i : goal.invariant-loop-i
-invariant-loop-i l = every (is_held l.floats l.counters l.held) (drop l.i l.ids) ≡ every (is_held l.floats l.counters l.held) l.ids
-
-abbrev pub decreases-loop-i : goal.decreases-loop-i
-decreases-loop-i l = length l.ids - l.i
+abbrev pub invariant-loop-id : goal.invariant-loop-id
+invariant-loop-id l = every (is_held l.floats l.counters l.held) (drop l.id-index l.ids) ≡ every (is_held l.floats l.counters l.held) l.ids

@@ -1,8 +1,7 @@
--- `ids::id_held` meets its contract. The loop's invariant: the ids of the tracks from i on decide. The measure is what is left of the tracks. Assumes nothing.
-use mathlib.Core.Path.{refl, ◌∙◌}
+-- `ids::id_held` meets its contract. The loop's invariant: the ids of the tracks from i on decide. Assumes nothing.
+use mathlib.Core.Path.{◌∙◌}
 use mathlib.Core.List.{List}
 use Prim.Native.Nat.{ℕ, ◌≤◌, ◌<◌}
-use native.Mathlib.Omega.{arith}
 use lib.ListN.{length}
 use Rattle.laws.specs.Deciding.{decided, undecided, exhausted}
 use Rattle.laws.specs.Elem.{elem, elem-here, elem-behind, elem-none}
@@ -10,13 +9,13 @@ use Rattle.boost_tracker_table.specs.Table.{tracks, ids_of}
 use Rattle.boost_tracker_forget.proofs.ForgetLaws.{held-many, held_at}
 use Rattle.boost_tracker_forget.proofs.ids.id_held.Goals as goal
 
-pub returns-then-id-other : goal.returns-then-id-other
-returns-then-id-other c =
+pub returns-then-id-load : goal.returns-then-id-load
+returns-then-id-load c =
     let at = c.loop-i in
     let a = c.args in
     let ids : List ℕ = ids_of (tracks a.floats.now a.counters.now a.held) in
     let low : at.i < length ids = rw (held-many a.floats.now a.counters.now a.held c.placed-n.ensures) c.loop-i-test.true in
-    decided (elem a.id) ids 0 at.i at.invariant low (elem-here a.id _ _ (c.if-id-other.true ∙ held_at _ _ _ at.i c.load-t.ensures))
+    decided (elem a.id) ids 0 at.i at.invariant low (elem-here a.id _ _ (c.if-id-load.true ∙ held_at _ _ _ at.i c.load.ensures))
 
 pub loop-i-preserved : goal.loop-i-preserved
 loop-i-preserved c =
@@ -24,8 +23,8 @@ loop-i-preserved c =
     let a = c.args in
     let ids : List ℕ = ids_of (tracks a.floats.now a.counters.now a.held) in
     let low : at.i < length ids = rw (held-many a.floats.now a.counters.now a.held c.placed-n.ensures) c.loop-i-test.true in
-    let is = held_at _ _ _ at.i c.load-t.ensures in
-    undecided (elem a.id) ids 0 at.i at.invariant low (elem-behind a.id _ _ (λ e. c.if-id-other.false (rw is e)))
+    let is = held_at _ _ _ at.i c.load.ensures in
+    undecided (elem a.id) ids 0 at.i at.invariant low (elem-behind a.id _ _ (λ e. c.if-id-load.false (rw is e)))
 
 pub returns : goal.returns
 returns c =
@@ -34,12 +33,3 @@ returns c =
     let ids : List ℕ = ids_of (tracks a.floats.now a.counters.now a.held) in
     let all : length ids ≤ at.i = rw (held-many a.floats.now a.counters.now a.held c.placed-n.ensures) c.loop-i-test.false in
     exhausted (elem a.id) ids 0 at.i at.invariant all (elem-none a.id)
-
-pub loop-i-init : goal.loop-i-init
-loop-i-init c = refl
-
-pub overflow_add-i : goal.overflow_add-i
-overflow_add-i c = omega (arith, c.loop-i-test.true, c.placed-n.ensures)
-
-pub loop-i-smaller : goal.loop-i-smaller
-loop-i-smaller c = omega (arith, c.loop-i-test.true)

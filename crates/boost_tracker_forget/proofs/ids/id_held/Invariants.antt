@@ -1,6 +1,5 @@
--- `ids::id_held` meets its contract. The loop's invariant: the ids of the tracks from i on decide. The measure is what is left of the tracks. Assumes nothing.
+-- `ids::id_held` meets its contract. The loop's invariant: the ids of the tracks from i on decide. Assumes nothing.
 use mathlib.Core.Path.{◌≡◌}
-use Prim.Native.Nat.{◌-◌}
 use lib.ListN.{drop}
 use Rattle.laws.specs.Elem.{elem}
 use Rattle.boost_tracker_table.specs.Table.{tracks, ids_of}
@@ -8,6 +7,3 @@ use Rattle.boost_tracker_forget.proofs.ids.id_held.Given as goal
 
 abbrev pub invariant-loop-i : goal.invariant-loop-i
 invariant-loop-i l = elem l.id (drop l.i (ids_of (tracks l.floats l.counters l.held))) ≡ elem l.id (ids_of (tracks l.floats l.counters l.held))
-
-abbrev pub decreases-loop-i : goal.decreases-loop-i
-decreases-loop-i l = l.n - l.i

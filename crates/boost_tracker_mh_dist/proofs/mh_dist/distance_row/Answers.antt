@@ -1,7 +1,6 @@
 -- The answers of `mh_dist::distance_row`: it meets its contract. Its invariant is in Invariants.antt. Assumes nothing.
 use mathlib.Core.Path.{refl}
 use native.Mathlib.Nat.{le_refl}
-use native.Mathlib.Omega.{arith}
 use Rattle.laws.specs.Tab.{fill_on, fill_start, fill_whole}
 use Rattle.boost_tracker_mh_dist.proofs.mh_dist.distance_row.Goals as goal
 
@@ -10,12 +9,6 @@ loop-j-preserved c = fill_on _ _ _ c.loop-j.invariant c.loop-j-test.true (le_ref
 
 pub loop-j-init : goal.loop-j-init
 loop-j-init c = fill_start _ _ _
-
-pub distance-requires : goal.distance-requires
-distance-requires c = (omega arith, omega arith)
-
-pub shape_of-row : goal.shape_of-row
-shape_of-row c = c.loop-j.invariant.same
 
 pub returns : goal.returns
 returns c = fill_whole _ _ _ c.loop-j.invariant c.loop-j-test.false refl

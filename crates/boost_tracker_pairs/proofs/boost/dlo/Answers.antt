@@ -1,4 +1,4 @@
--- `boost::dlo` meets its contract: distances, which are accepted, the times, and boost, or nothing. Assumes nothing.
+-- `boost::dlo` meets its contract: distances where they are wanted, the times, and boost, or nothing. Assumes nothing.
 use mathlib.Core.Path.{◌≡◌, sym, ◌∙◌}
 use mathlib.Core.List.{◌++◌}
 use Prim.Native.Nat.{◌≤◌}
@@ -7,9 +7,9 @@ use lib.ListN.{length, drop, replicate}
 use lib.Seq.{length-take-le, take_at}
 use Rattle.labels.specs.Label.{same_label, alike}
 use Rattle.boost_tracker_pairs.specs.Private.{predicted_in}
-use Rattle.boost_tracker_pairs.proofs.BoostLaws.{never_refused, dlo-is, dlo-done, dlo-left, front-in}
+use Rattle.boost_tracker_pairs.proofs.BoostLaws.{dlo-is, dlo-done, dlo-left, front-in}
 use Rattle.boost_tracker_pairs.proofs.boost.dlo.Goals as goal
-use Rattle.boost_tracker_pairs.proofs.boost.dlo.Goals.{After-since}
+use Rattle.boost_tracker_pairs.proofs.boost.dlo.Goals.{After-since, then-settings, else-settings}
 
 -- the times are those of the tracks
 timed : (c : After-since) → length c.since.new.out ≡ c.args.held
@@ -17,11 +17,6 @@ timed c = c.since.auto.out ∙ length-take-le c.args.held _ (omega (arith, c.req
 
 in_array : (c : After-since) → c.args.held ≤ length (c.since.new.out ++ drop c.args.held (replicate 255 0))
 in_array c = front-in c.since.new.out (drop c.args.held (replicate 255 0)) c.args.held (timed c)
-
-pub returns-in_default : goal.returns-in_default
-returns-in_default c = λ s.
-    let a = c.args in
-    absurd (never_refused (c.mh_dist-distances.ensures (predicted_in a.floats.now a.counters.now a.held) s) c.in_default.is)
 
 pub slice_bounds-since-end : goal.slice_bounds-since-end
 slice_bounds-since-end c = sym (length-take-le _ _ (omega (arith, c.requires.sizes.few-tracks)))
@@ -35,21 +30,21 @@ slice_bounds-times-end-then-settings-held c = in_array (goal.at.slice_bounds-tim
 pub slice_bounds-dlo_confidence_boost-end : goal.slice_bounds-dlo_confidence_boost-end
 slice_bounds-dlo_confidence_boost-end c = sym (length-take-le _ _ (in_array (goal.at.slice_bounds-dlo_confidence_boost-end c).After-since))
 
-pub returns-then-settings-held : goal.returns-then-settings-held
-returns-then-settings-held c = λ s.
+pub returns-after-settings : goal.returns-after-settings
+returns-after-settings c = λ s.
     let a = c.args in
     let like = alike same_label a.box_labels.now a.track_labels.now in
     let ts = predicted_in a.floats.now a.counters.now a.held in
     let boost = c.dlo_confidence_boost.ensures in
-    let distances = c.mh_dist-distances in
     dlo-done like a.settings a.corners.now a.trks.now a.confs.now ts a.held s.many a.work.now a.scores.now c.if-settings-held.true
     (dlo-is like a.settings a.corners.now a.trks.now a.confs.now ts a.held s.many a.work.now a.scores.now
-    c.requires.sizes c.requires.tracks (length-take-le _ _ (in_array (goal.at.returns-then-settings-held c).After-since)) c.dlo_settings.ensures
-    (take_at c.since.new.out (drop a.held (replicate 255 0)) a.held (timed (goal.at.returns-then-settings-held c).After-since) ∙ c.since.ensures)
-    (distances.ensures ts s) distances.auto.out boost.answer boost.boosted)
+    c.requires.sizes c.requires.tracks (length-take-le _ _ (in_array (goal.at.returns-after-settings c).After-since)) c.dlo_settings.ensures
+    (take_at c.since.new.out (drop a.held (replicate 255 0)) a.held (timed (goal.at.returns-after-settings c).After-since) ∙ c.since.ensures)
+    (elim c.if-settings.branch [ then-settings w ↦ rw w.if-settings.true (w.work-is ∙ w.mh_dist.ensures ts s) | else-settings w ↦ rw w.if-settings.false w.work-is ])
+    c.if-settings.auto.work boost.answer boost.boosted)
 
-pub returns : goal.returns
-returns c = λ s.
+pub returns-else-settings-held : goal.returns-else-settings-held
+returns-else-settings-held c = λ s.
     let a = c.args in
     dlo-left (alike same_label a.box_labels.now a.track_labels.now) a.settings a.corners.now a.trks.now a.confs.now (predicted_in a.floats.now a.counters.now a.held) a.held s.many a.work.now
     a.scores.now c.if-settings-held.false

@@ -1,26 +1,21 @@
--- `gather::bboxes` meets its contract. The loop's invariant: the corners of the first i objects are stored, and the next start at `at`. The measure is the number of objects left. Assumes nothing.
+-- `gather::bboxes` meets its contract. The loop's invariant: the corners of the first i objects are stored, and the next start at `at`. Assumes nothing.
 use mathlib.Core.Path.{◌∙◌, ap, refl, sym}
 use native.Mathlib.Nat.{le_of_eq}
+use Rattle.std.proofs.Common.{zero-mul}
 use native.Mathlib.Omega.{arith}
-use Rattle.laws.specs.Grid.{row-part, row_room, rows_end, rows_on, rows_start}
+use Rattle.laws.specs.Grid.{row-part, row_room, row_next, rows_end, rows_on, rows_start}
 use Rattle.boost_tracker_definition.specs.Update.{corners_of}
 use Rattle.boost_tracker_pairs.proofs.GatherLaws.{bboxes_are}
 use Rattle.boost_tracker_pairs.proofs.gather.bboxes.Goals as goal
 
 pub loop-i-preserved : goal.loop-i-preserved
-loop-i-preserved c = rows_on c.loop-i.invariant c.loop-i-test.true (λ k. refl) (c.put_four.ensures ∙ c.of_corners.ensures ∙ ap corners_of c.xyxy_of.ensures)
+loop-i-preserved c = rw (row_next c.loop-i.i 4) (rows_on c.loop-i.invariant c.loop-i-test.true (λ k. refl) (c.put_four.ensures ∙ c.of_corners.ensures ∙ ap corners_of c.xyxy_of.ensures))
 
 pub returns : goal.returns
 returns c = let a = c.args in rows_end c.loop-i.invariant c.loop-i-test.false ∙ bboxes_are a.objects.now a.corners.now c.requires
 
 pub loop-i-init : goal.loop-i-init
-loop-i-init c = rows_start (le_of_eq (sym c.requires))
-
-pub overflow_add-at : goal.overflow_add-at
-overflow_add-at c = omega (arith, row_room c.loop-i.invariant c.loop-i-test.true)
-
-pub offset_bounds-corners-at : goal.offset_bounds-corners-at
-offset_bounds-corners-at c = omega (arith, row_room c.loop-i.invariant c.loop-i-test.true)
+loop-i-init c = rw (zero-mul 4) (rows_start (le_of_eq (sym c.requires)))
 
 pub slice_bounds-put_four-count : goal.slice_bounds-put_four-count
 slice_bounds-put_four-count c = omega (arith, row_room c.loop-i.invariant c.loop-i-test.true)
@@ -36,15 +31,3 @@ xyxy_of-requires c = omega (arith, c.loop-i-test.true)
 
 pub put_four-requires : goal.put_four-requires
 put_four-requires c = row-part c.loop-i.invariant c.loop-i-test.true
-
-pub overflow_add-at-in-loop-i : goal.overflow_add-at-in-loop-i
-overflow_add-at-in-loop-i c = omega (arith, row_room c.loop-i.invariant c.loop-i-test.true)
-
-pub overflow_add-i : goal.overflow_add-i
-overflow_add-i c = omega (arith, c.loop-i-test.true)
-
-pub loop-i-smaller : goal.loop-i-smaller
-loop-i-smaller c = omega (arith, c.loop-i-test.true)
-
-pub shape_of-corners : goal.shape_of-corners
-shape_of-corners c = c.loop-i.invariant.same

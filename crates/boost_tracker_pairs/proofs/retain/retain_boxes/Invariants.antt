@@ -1,5 +1,4 @@
--- `retain::retain_boxes` meets its contract. The loop's invariant: of the boxes before i the corners of the retained are in the front, w of them. The measure is the number of boxes left. Assumes nothing.
-use Prim.Native.Nat.{◌-◌}
+-- `retain::retain_boxes` meets its contract. The loop's invariant: of the boxes before i the corners of the retained are in the front, w of them. Assumes nothing.
 use lib.ListN.{length}
 use Rattle.laws.specs.Kept.{Keeping}
 use Rattle.boost_tracker_definition.specs.Update.{corners_of, xyxy_of, remains}
@@ -7,6 +6,3 @@ use Rattle.boost_tracker_pairs.proofs.retain.retain_boxes.Given as goal
 
 abbrev pub invariant-loop-i : goal.invariant-loop-i
 invariant-loop-i l = Keeping (λ k. corners_of (xyxy_of l.objects k)) 4 (remains l.thresh l.scores) (λ k. k) l.initial.corners (length l.scores) l.i l.w l.corners
-
-abbrev pub decreases-loop-i : goal.decreases-loop-i
-decreases-loop-i l = length l.scores - l.i

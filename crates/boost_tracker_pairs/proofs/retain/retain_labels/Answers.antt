@@ -1,4 +1,4 @@
--- `retain::retain_labels` meets its contract. The loop's invariant: of the boxes before i the labels of the retained are in the front, w of them. The measure is the number of boxes left. Assumes nothing.
+-- `retain::retain_labels` meets its contract. The loop's invariant: of the boxes before i the labels of the retained are in the front, w of them. Assumes nothing.
 use native.Mathlib.Omega.{arith}
 use Rattle.boost_tracker_pairs.proofs.RetainLaws.{label_start, label_on, label_end}
 use Rattle.boost_tracker_pairs.proofs.retain.retain_labels.Goals as goal
@@ -21,15 +21,6 @@ offset_bounds-scores-i c = omega (arith, c.loop-i-test.true)
 
 pub bounds-scores-i : goal.bounds-scores-i
 bounds-scores-i c = omega (arith, c.loop-i-test.true)
-
-pub overflow_add-i : goal.overflow_add-i
-overflow_add-i c = omega (arith, c.loop-i-test.true)
-
-pub loop-i-smaller : goal.loop-i-smaller
-loop-i-smaller c = omega (arith, c.loop-i-test.true)
-
-pub shape_of-out : goal.shape_of-out
-shape_of-out c = c.loop-i.invariant.pushed.same
 
 pub returns : goal.returns
 returns c = label_end _ _ _ _ c.loop-i.invariant c.loop-i-test.false

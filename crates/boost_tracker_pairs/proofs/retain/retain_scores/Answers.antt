@@ -1,4 +1,4 @@
--- `retain::retain_scores` meets its contract. The loop's invariant: of the scores before i those of retained boxes are in the front, w of them. The measure is the number of scores left. Assumes nothing.
+-- `retain::retain_scores` meets its contract. The loop's invariant: of the scores before i those of retained boxes are in the front, w of them. Assumes nothing.
 use mathlib.Core.Path.{refl}
 use native.Mathlib.Omega.{arith}
 use Rattle.boost_tracker_pairs.proofs.RetainLaws.{score-start, score-on, score-end}
@@ -12,15 +12,6 @@ loop-i-init c = score-start _ _ _
 
 pub keep_score-w-requires : goal.keep_score-w-requires
 keep_score-w-requires c = (c.loop-i.invariant.few, omega (arith, c.loop-i-test.true, c.loop-i.invariant.pushed.same))
-
-pub overflow_add-i : goal.overflow_add-i
-overflow_add-i c = omega (arith, c.loop-i-test.true)
-
-pub loop-i-smaller : goal.loop-i-smaller
-loop-i-smaller c = omega (arith, c.loop-i-test.true)
-
-pub shape_of-scores : goal.shape_of-scores
-shape_of-scores c = c.loop-i.invariant.pushed.same
 
 pub returns : goal.returns
 returns c = score-end _ _ _ c.loop-i.invariant c.loop-i-test.false refl

@@ -1,7 +1,8 @@
 -- `seen::since_predicted` meets its contract: a prediction adds one. Assumes nothing.
+use Rattle.std.proofs.Common.{refl}
 use Rattle.strack.specs.Strack.{predict}
 use Rattle.boost_tracker_seen.proofs.seen.since_predicted.Goals as goal
 
 pub returns : goal.returns
 unfolding predict
-returns c = c.wrapping_add_u64.ensures.value
+returns c = refl

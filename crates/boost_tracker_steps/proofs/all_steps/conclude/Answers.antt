@@ -1,18 +1,12 @@
--- `all_steps::conclude` meets its contract: a refused frame changes nothing; of an accepted one the pairs are found and followed. Assumes nothing.
+-- `all_steps::conclude` meets its contract: the pairs are found and followed. Assumes nothing.
 use mathlib.Core.Path.{sym}
 use native.Mathlib.Omega.{arith}
 use lib.ListN.{length}
 use lib.Seq.{length-take-le}
 use Rattle.boost_tracker_pairs.specs.Pairs.{inputs_with}
 use Rattle.boost_tracker_pairs.proofs.PairLaws.{roomy-fits}
-use Rattle.boost_tracker_steps.proofs.AdvanceLaws.{ends-refused, ends-settled}
+use Rattle.boost_tracker_steps.proofs.AdvanceLaws.{ends-settled}
 use Rattle.boost_tracker_steps.proofs.all_steps.conclude.Goals as goal
-
-pub returns-in_default : goal.returns-in_default
-returns-in_default c =
-    let a = c.args in
-    ends-refused a.settings a.state a.prepared (inputs_with a.corners.now a.kept_labels.now a.scores.now a.trks.now a.confs.now)
-    a.floats.now a.counters.now a.labels.now a.work64.now a.work32.now c.in_default.is c.refused.ensures
 
 pub slice_bounds-settle-end : goal.slice_bounds-settle-end
 slice_bounds-settle-end c =
@@ -38,4 +32,4 @@ returns c =
     let found = c.pairs-paired in
     ends-settled a.settings a.state a.prepared (inputs_with a.corners.now a.kept_labels.now a.scores.now a.trks.now a.confs.now)
     a.floats.now a.counters.now a.labels.now a.work64.now a.work32.now
-    found.result c.in-Accepted.is c.requires.roomy found.auto.pair_boxes found.auto.pair_tracks found.auto.unmatched found.ensures c.settle.ensures
+    found.result c.requires.roomy found.auto.pair_boxes found.auto.pair_tracks found.auto.unmatched found.ensures c.settle.ensures

@@ -12,4 +12,4 @@ pub returns : goal.returns
 returns c =
     let a = c.args in
     settled_is a.state a.corners.now a.kept_labels.now a.pair_boxes.now a.pair_tracks.now a.unmatched.now a.floats.now a.counters.now a.labels.now
-    c.in-Assigned.is c.predict_all.ensures c.follow.ensures c.answered-2.ensures
+    c.in-Ok.is c.predict_all.ensures c.follow.ensures c.answered-2.ensures

@@ -1,5 +1,5 @@
 -- `table::load` meets its contract. Assumes nothing.
-use mathlib.Core.Path.{sym, ◌∙◌}
+use Rattle.std.proofs.Common.{◌≡◌, sym, ◌∙◌, rules}
 use native.Mathlib.Omega.{arith}
 use Rattle.boost_tracker_table.specs.Table.{blank}
 use Rattle.boost_tracker_table.proofs.Laws.{tracks-at, tracks_past}
@@ -10,7 +10,8 @@ returns-then-i-placed c =
     let a = c.args in
     c.track_at.ensures ∙ sym (tracks-at a.floats.now a.counters.now a.held a.i blank (omega (arith, c.if-i-placed.true, c.placed.ensures)))
 
-pub returns : goal.returns
-returns c =
+pub returns-else-i-placed : goal.returns-else-i-placed
+returns-else-i-placed c =
     let a = c.args in
-    c.blank.ensures ∙ sym (tracks_past a.floats.now a.counters.now a.held a.i blank (omega (arith, c.if-i-placed.false, c.placed.ensures)))
+    let zeros : c.default.result ≡ blank = search rules in
+    zeros ∙ sym (tracks_past a.floats.now a.counters.now a.held a.i blank (omega (arith, c.if-i-placed.false, c.placed.ensures)))

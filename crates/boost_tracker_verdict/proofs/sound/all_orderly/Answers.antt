@@ -1,14 +1,13 @@
 -- `sound::all_orderly` meets its contract. The loop's invariant: the tracks before i are orderly, `low` is the id of the last of them, and those from i on decide.
--- The measure is what is left of the tracks. Assumes nothing.
+-- Assumes nothing.
 use mathlib.Core.Path.{◌≡◌, ap, ◌∙◌}
 use mathlib.Core.Bool.{Bool}
 use mathlib.Core.List.{List}
 use Prim.Native.Nat.{ℕ}
-use native.Mathlib.Omega.{arith}
 use lib.ListN.{length}
 use lib.Ieee.{Float}
 use Rattle.laws.specs.Tab.{tab}
-use Rattle.laws.specs.Every.{chain, chain-start, chain-on, chain_fails, chain-ends}
+use Rattle.laws.specs.Every.{chain, chain-on, chain_fails, chain-ends}
 use Rattle.boost_tracker_table.specs.Table.{track_at, placed, tracks}
 use Rattle.boost_tracker_verdict.specs.Private.{orderly, id_of}
 use Rattle.boost_tracker_verdict.proofs.Loading.{loaded, all_loaded}
@@ -28,15 +27,6 @@ pub loop-i-preserved : goal.loop-i-preserved
 loop-i-preserved c =
     let here = loaded _ _ _ c.placed-n.ensures c.loop-i-test.true c.load-t.ensures in
     chain-on _ _ _ _ _ c.loop-i.invariant c.loop-i-test.true here c.orderly.ensures c.if-not-orderly.false
-
-pub loop-i-init : goal.loop-i-init
-loop-i-init c = chain-start _ _ _ _ _
-
-pub overflow_add-i : goal.overflow_add-i
-overflow_add-i c = omega (arith, c.loop-i-test.true, c.placed-n.ensures)
-
-pub loop-i-smaller : goal.loop-i-smaller
-loop-i-smaller c = omega (arith, c.loop-i-test.true)
 
 pub returns : goal.returns
 returns c = whole _ _ _ _ _ _ _ c.placed-n.ensures (chain-ends _ _ _ _ _ c.loop-i.invariant c.loop-i-test.false)

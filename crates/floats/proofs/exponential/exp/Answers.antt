@@ -1,10 +1,9 @@
 -- `floats::exponential::exp` meets its contract: each early return is a case of the definition, and what is left goes through Q, its quotient and remainder, the sum and the rounding. Assumes nothing.
 use Rattle.std.proofs.Common.{◌≡◌, ℕ, ◌*◌, ◌^◌, ◌<◌, ◌≤◌, true, false, cond, T, ℤ, pos, negsuc, ◌+ℤ◌, ◌-ℤ◌, nat_abs, sym, refl, ap, ◌∙◌, subst, le_refl, lt_of_le_of_lt, arith, lit≤, to_z-of_z, w64, Fits, SFits, to_z, of_z}
 use lib.Signed.{mag, non_neg}
-use lib.Ieee.{Float, nan, inf, fin, binary32, le, ne, is_nan, of_bits, of_int, neg, minus}
+use lib.Ieee.{Float, nan, inf, fin, binary32, le, is_nan, of_bits, of_int, neg, minus}
 use Rattle.floats.specs.Exponential.{L, S, of_q, of_finite, exp}
 use Rattle.floats.specs.Private.{Splits}
-use Rattle.floats_pick.proofs.Nans.{ne_self}
 use Rattle.floats.proofs.Pack.{no_nan}
 use Rattle.floats.proofs.Series.{sum_le, sum_ge}
 use Rattle.floats.proofs.Signs.{read}
@@ -37,14 +36,11 @@ of-104 = refl
 
 -- ---- the definition where the tests are as the arms found them
 module _ (a : Float) where
-  nan_is : ne a a ≡ true → a ≡ exp a
+  nan_is : is_nan a ≡ true → a ≡ exp a
   unfolding exp
-  nan_is p = cc (ne_self a)
+  nan_is p = cc
 
-  module _ (n : ne a a ≡ false) where
-    number : is_nan a ≡ false
-    number = sym (ne_self a) ∙ n
-
+  module _ (number : is_nan a ≡ false) where
     by_tests : exp a ≡ cond (le c89 a) (inf false) (cond (le a c104) (fin false 0 (pos 0)) (of_finite a))
     unfolding exp
     by_tests = rw (number, of-89 ∙ sym is-89, of-104 ∙ sym is-104)
@@ -78,7 +74,7 @@ read_back z h = to_z-of_z {w = w64} {z = z} (record { sfits = lt_of_le_of_lt (le
 
 -- ---- what is known after `split`
 past : (c : After-split-d) → Small c.args.a
-past c = small c.args.a c.if-a.false c.if-a-2.false c.if-a-3.false
+past c = small c.args.a (sym c.is_nan.ensures.value ∙ c.if-is_nan.false) c.if-a.false c.if-a-2.false
 
 scaled-is : (c : After-split-d) → IsQ c.args.a c.scaled-z.result
 scaled-is c =
@@ -133,27 +129,27 @@ bounds r s h e =
     let hi = sum_le r (omega arith) 12 in
     subst (λ (x : ℕ). (2 ^ 30 ≤ x) × (x < 2 ^ 34)) (sym e) (lo, omega arith)
 
-pub returns-then-a : goal.returns-then-a
-returns-then-a c = nan_is c.args.a c.if-a.true
+pub returns-then-is_nan : goal.returns-then-is_nan
+returns-then-is_nan c = nan_is c.args.a (sym c.is_nan.ensures.value ∙ c.if-is_nan.true)
 
 pub float_from_bits-result : goal.float_from_bits-result
 float_from_bits-result c = no_nan 0x7f80_0000 (lit≤ tt)
 
-pub returns-then-a-2 : goal.returns-then-a-2
-returns-then-a-2 c = large_is c.args.a c.if-a.false c.if-a-2.true
+pub returns-then-a : goal.returns-then-a
+returns-then-a c = large_is c.args.a (sym c.is_nan.ensures.value ∙ c.if-is_nan.false) c.if-a.true
 
-pub returns-then-a-3 : goal.returns-then-a-3
-returns-then-a-3 c = tiny-is c.args.a c.if-a.false c.if-a-2.false c.if-a-3.true
+pub returns-then-a-2 : goal.returns-then-a-2
+returns-then-a-2 c = tiny-is c.args.a (sym c.is_nan.ensures.value ∙ c.if-is_nan.false) c.if-a.false c.if-a-2.true
 
 pub parts-p-requires : goal.parts-p-requires
-parts-p-requires c = small_finite c.args.a (small c.args.a c.if-a.false c.if-a-2.false c.if-a-3.false)
+parts-p-requires c = small_finite c.args.a (small c.args.a (sym c.is_nan.ensures.value ∙ c.if-is_nan.false) c.if-a.false c.if-a-2.false)
 
 pub scaled-z-requires : goal.scaled-z-requires
 scaled-z-requires c =
     let p = c.parts-p in
     record {
       fact_1 = p.ensures.short;
-      fact_2 = places c.args.a p.result.negative p.result.digits p.result.place (small c.args.a c.if-a.false c.if-a-2.false c.if-a-3.false) p.ensures;
+      fact_2 = places c.args.a p.result.negative p.result.digits p.result.place (small c.args.a (sym c.is_nan.ensures.value ∙ c.if-is_nan.false) c.if-a.false c.if-a-2.false) p.ensures;
     }
 
 pub overflow_add-q : goal.overflow_add-q
@@ -176,4 +172,4 @@ returns c =
     c.rounded.ensures
     ∙ answer z d.quotient _ d.rest c.summed.result (splits (goal.at.returns c).After-split-d) (sum-minus d.quotient (few (goal.at.returns c).After-split-d)) c.summed.ensures
     ∙ finite-is a z (scaled-is (goal.at.returns c).After-split-d)
-    ∙ sym (by_parts a c.if-a.false c.if-a-2.false c.if-a-3.false)
+    ∙ sym (by_parts a (sym c.is_nan.ensures.value ∙ c.if-is_nan.false) c.if-a.false c.if-a-2.false)

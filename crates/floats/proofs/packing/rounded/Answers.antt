@@ -54,23 +54,23 @@ pub overflow_sub-top : goal.overflow_sub-top
 overflow_sub-top c = leading_le 64 c.args.s
 
 pub overflow_sub-dropped : goal.overflow_sub-dropped
-overflow_sub-dropped c = room c.args.s c.args.p c.over-dropped.result c.requires.fact_1 c.requires.fact_2 c.over-dropped.ensures
+overflow_sub-dropped c = room c.args.s c.args.p c.saturating_sub-dropped.result c.requires.fact_1 c.requires.fact_2 c.saturating_sub-dropped.ensures
 
 pub shifted-requires : goal.shifted-requires
 shifted-requires c =
-    let h = shifts c.args.s c.args.p c.over-dropped.result c.requires.fact_1 c.requires.fact_2 c.over-dropped.ensures in
+    let h = shifts c.args.s c.args.p c.saturating_sub-dropped.result c.requires.fact_1 c.requires.fact_2 c.saturating_sub-dropped.ensures in
     record { fact_1 = omega (arith, c.requires.fact_2); fact_2 = h.0; fact_3 = h.1 }
 
 pub packed-requires : goal.packed-requires
 packed-requires c =
-    let k = asks c.args.s c.args.p c.over-dropped.result c.requires.fact_1 c.requires.fact_2 c.over-dropped.ensures in
+    let k = asks c.args.s c.args.p c.saturating_sub-dropped.result c.requires.fact_1 c.requires.fact_2 c.saturating_sub-dropped.ensures in
     record {
       fact_1 = rw c.shifted.ensures k.0;
       fact_2 = rw c.shifted.ensures k.1;
-      fact_3 = short c.args.s c.args.p c.over-dropped.result c.requires.fact_1 c.requires.fact_2 c.over-dropped.ensures c.requires.fact_3;
+      fact_3 = short c.args.s c.args.p c.saturating_sub-dropped.result c.requires.fact_1 c.requires.fact_2 c.saturating_sub-dropped.ensures c.requires.fact_3;
     }
 
 pub returns : goal.returns
 returns c =
-    let o = c.over-dropped in
+    let o = c.saturating_sub-dropped in
     c.packed.ensures ∙ ap (λ (x : ℕ). units binary32 false x o.result) c.shifted.ensures ∙ sym (gives c.args.s c.args.p o.result c.requires.fact_1 c.requires.fact_2 o.ensures)

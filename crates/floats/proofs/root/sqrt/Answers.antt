@@ -1,13 +1,12 @@
 -- `floats::root::sqrt` meets its contract: each early return is a case of the definition, and what is left is above zero and finite. Assumes nothing.
 use Rattle.std.proofs.Common.{◌≡◌, ℕ, zero, suc, ◌+◌, ◌*◌, ◌<◌, Bool, true, false, ◌&&◌, ◌||◌, T, eqb, ℤ, pos, sym, refl, ap, ◌∙◌, subst, true≢false, zero-lt-suc, mul-pos, arith, lit≤, lt→ltb, ltb-true, lt-ltb, eq-eqb, eqb-true}
 use mathlib.Core.Bool.{beq}
-use lib.Ieee.{Float, nan, inf, fin, binary32, up, down, lt, eq, ne, is_nan, of_bits, div}
+use lib.Ieee.{Float, nan, inf, fin, binary32, up, down, lt, eq, is_nan, of_bits, div}
 use lib.Ieee.Fits.{up_pos}
 use lib.Ieee.Positive.{positive, positive-finite}
 use Rattle.floats.specs.Root.{root}
 use Rattle.floats.specs.Private.{Parts}
 use Rattle.floats.proofs.Nearest.{parts-above, significance, root_of_parts}
-use Rattle.floats_pick.proofs.Nans.{ne_self}
 use Rattle.floats.proofs.Pack.{no_nan}
 use Rattle.floats.proofs.root.sqrt.Goals as goal
 
@@ -86,37 +85,37 @@ is-above (fin false (suc m) e) n z l i = lt→ltb 0 (suc m) (zero-lt-suc m)
 unsigned : (x : Float) (s : Bool) (d k : ℕ) → T (positive x) → Parts x s d k → Parts x false d k
 unsigned x s d k h p = subst (λ (t : Bool). Parts x t d k) (parts-above x s d k h p) p
 
-past : (x : Float) → ne x x ≡ false → eq x (of_bits binary32 0) ≡ false → lt x (of_bits binary32 0) ≡ false → eq x (of_bits binary32 0x7f80_0000) ≡ false → T (positive x)
-past x n z l i = is-above x (sym (ne_self x) ∙ n) (ap (eq x) (sym nil_is) ∙ z) (ap (lt x) (sym nil_is) ∙ l) (ap (eq x) (sym endless) ∙ i)
+past : (x : Float) → is_nan x ≡ false → eq x (of_bits binary32 0) ≡ false → lt x (of_bits binary32 0) ≡ false → eq x (of_bits binary32 0x7f80_0000) ≡ false → T (positive x)
+past x n z l i = is-above x n (ap (eq x) (sym nil_is) ∙ z) (ap (lt x) (sym nil_is) ∙ l) (ap (eq x) (sym endless) ∙ i)
+
+pub returns-then-is_nan : goal.returns-then-is_nan
+returns-then-is_nan c = let x = c.args.x in of_nan x (sym c.is_nan.ensures.value ∙ c.if-is_nan.true)
 
 pub returns-then-x : goal.returns-then-x
-returns-then-x c = let x = c.args.x in of_nan x (sym (ne_self x) ∙ c.if-x.true)
+returns-then-x c = let x = c.args.x in of_zero x (ap (eq x) (sym nil_is) ∙ c.if-x.true)
 
 pub returns-then-x-2 : goal.returns-then-x-2
-returns-then-x-2 c = let x = c.args.x in of_zero x (ap (eq x) (sym nil_is) ∙ c.if-x-2.true)
+returns-then-x-2 c = let x = c.args.x in no_number ∙ of-below x (ap (lt x) (sym nil_is) ∙ c.if-x-2.true)
+
+pub float_from_bits-t-5 : goal.float_from_bits-t-5
+float_from_bits-t-5 c = no_nan 0x7f80_0000 (lit≤ tt)
 
 pub returns-then-x-3 : goal.returns-then-x-3
-returns-then-x-3 c = let x = c.args.x in no_number ∙ of-below x (ap (lt x) (sym nil_is) ∙ c.if-x-3.true)
-
-pub float_from_bits-t-4 : goal.float_from_bits-t-4
-float_from_bits-t-4 c = no_nan 0x7f80_0000 (lit≤ tt)
-
-pub returns-then-x-4 : goal.returns-then-x-4
-returns-then-x-4 c = let x = c.args.x in of_inf x (ap (eq x) (sym endless) ∙ c.if-x-4.true)
+returns-then-x-3 c = let x = c.args.x in of_inf x (ap (eq x) (sym endless) ∙ c.if-x-3.true)
 
 pub parts-p-requires : goal.parts-p-requires
-parts-p-requires c = positive-finite c.args.x (past c.args.x c.if-x.false c.if-x-2.false c.if-x-3.false c.if-x-4.false)
+parts-p-requires c = positive-finite c.args.x (past c.args.x (sym c.is_nan.ensures.value ∙ c.if-is_nan.false) c.if-x.false c.if-x-2.false c.if-x-3.false)
 
 pub rooted-requires : goal.rooted-requires
 rooted-requires c =
     let x = c.args.x in
     let p = c.parts-p in
-    let h = past x c.if-x.false c.if-x-2.false c.if-x-3.false c.if-x-4.false in
+    let h = past x (sym c.is_nan.ensures.value ∙ c.if-is_nan.false) c.if-x.false c.if-x-2.false c.if-x-3.false in
     significance x p.result.digits p.result.place h (unsigned x p.result.negative p.result.digits p.result.place h p.ensures)
 
 pub returns : goal.returns
 returns c =
     let x = c.args.x in
     let p = c.parts-p in
-    let h = past x c.if-x.false c.if-x-2.false c.if-x-3.false c.if-x-4.false in
+    let h = past x (sym c.is_nan.ensures.value ∙ c.if-is_nan.false) c.if-x.false c.if-x-2.false c.if-x-3.false in
     c.rooted.ensures ∙ sym (root_of_parts x p.result.digits p.result.place h (unsigned x p.result.negative p.result.digits p.result.place h p.ensures).value)

@@ -6,10 +6,9 @@ use native.Mathlib.Nat.{mod-lt}
 use native.Mathlib.Omega.{arith}
 use lib.Dec.{T, leb, eqb, lit<}
 use borrow.Author.Tests.{lt-leb}
-use lib.Ieee.{Float, nan, inf, fin, binary32, fits, is_nan, ne, odd, of_fields, of_bits, to_bits}
+use lib.Ieee.{Float, nan, inf, fin, binary32, fits, is_nan, odd, of_fields, of_bits, to_bits}
 use lib.Ieee.Bits.{of_bits-to_bits, nan_bits_is}
 use Rattle.floats_pick.specs.Pick.{abs}
-use Rattle.floats_pick.proofs.Nans.{ne_self}
 use Rattle.floats_pick.proofs.pick.abs.Goals as goal
 
 of_nan : (x : Float) → is_nan x ≡ true → x ≡ abs x
@@ -56,19 +55,16 @@ abs-number nan = refl
 abs-number (inf s) = refl
 abs-number (fin s m e) = refl
 
-number : (x : Float) → ne x x ≡ false → T (not (is_nan x))
-number x h = subst (λ (b : Bool). T (not b)) (sym h ∙ ne_self x) tt
+number : (x : Float) → is_nan x ≡ false → T (not (is_nan x))
+number x h = subst (λ (b : Bool). T (not b)) (sym h) tt
 
-pub returns-then-x : goal.returns-then-x
-returns-then-x c = let x = c.args.x in of_nan x (sym (ne_self x) ∙ c.if-x.true)
-
-pub float_to_bits-result : goal.float_to_bits-result
-float_to_bits-result c = number c.args.x c.if-x.false
+pub returns-then-is_nan : goal.returns-then-is_nan
+returns-then-is_nan c = of_nan c.args.x (sym c.is_nan.ensures.value ∙ c.if-is_nan.true)
 
 pub float_from_bits-result : goal.float_from_bits-result
 float_from_bits-result c =
     let x = c.args.x in
-    subst (λ (b : Bool). T (not b)) (sym (nan_bits_is binary32 (to_bits binary32 x % 2 ^ 31) ∙ ap is_nan (magnitude x (subst T (sym c.well_formed.0.1) tt)) ∙ abs-number x)) (number x c.if-x.false)
+    subst (λ (b : Bool). T (not b)) (sym (nan_bits_is binary32 (to_bits binary32 x % 2 ^ 31) ∙ ap is_nan (magnitude x (subst T (sym c.well_formed.0.1) tt)) ∙ abs-number x)) (number x (sym c.is_nan.ensures.value ∙ c.if-is_nan.false))
 
 pub returns : goal.returns
 returns c = magnitude c.args.x (subst T (sym c.well_formed.0.1) tt)

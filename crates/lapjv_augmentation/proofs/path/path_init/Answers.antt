@@ -12,11 +12,11 @@ loop-i-preserved c =
     let l = c.loop-i in
     let h = c.loop-i-test.true in
     let q = c.requires in
-    (fill_on _ _ _ l.invariant.0 h (omega (arith, q.3)) (rw c.reduced_cost-c.ensures), fill_on _ _ _ l.invariant.1 h (omega (arith, q.4)) refl, fill_on _ _ _ l.invariant.2 h (omega (arith, q.5)) refl)
+    (fill_on _ _ _ l.invariant.0 h (omega (arith, q.2)) (rw c.reduced_cost.ensures), fill_on _ _ _ l.invariant.1 h (omega (arith, q.3)) refl, fill_on _ _ _ l.invariant.2 h (omega (arith, q.4)) refl)
 
 pub returns : goal.returns
 returns c =
     let l = c.loop-i in
     let q = c.requires in
     let h = c.loop-i-test.false in
-    (fill_whole _ _ _ l.invariant.0 h q.3, fill_whole _ _ _ l.invariant.1 h q.4, fill_whole _ _ _ l.invariant.2 h q.5)
+    (fill_whole _ _ _ l.invariant.0 h q.2, fill_whole _ _ _ l.invariant.1 h q.3, fill_whole _ _ _ l.invariant.2 h q.4)

@@ -5,7 +5,7 @@ use Rattle.lapjv_definition.proofs.SearchLaws.{AllInv}
 use Rattle.lapjv_augmentation.proofs.scan.scan_dense.Given as goal
 
 abbrev pub invariant-loop-lo : goal.invariant-loop-lo
-invariant-loop-lo l = AllInv l.n l.cost l.y l.v (scan_all l.n l.cost l.y l.v (l.n - l.lo0) l.lo0 0 (scanning l.initial.d l.initial.cols l.initial.pred l.hi0 l.n)) l.lo l.hi l.scans l.d l.cols l.pred
+invariant-loop-lo l = AllInv l.costs.side l.costs.cells.now l.y l.v (scan_all l.costs.side l.costs.cells.now l.y l.v (l.costs.side - l.lo0) l.lo0 0 (scanning l.initial.d l.initial.cols l.initial.pred l.hi0 l.costs.side)) l.lo l.hi l.scans l.d l.cols l.pred
 
 abbrev pub decreases-loop-lo : goal.decreases-loop-lo
-decreases-loop-lo l = l.n - l.lo
+decreases-loop-lo l = l.costs.side - l.lo

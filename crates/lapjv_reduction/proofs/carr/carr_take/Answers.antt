@@ -2,17 +2,17 @@
 use mathlib.Core.Path.{sym, ◌∙◌}
 use borrow.Author.Tests.{lt-ltb, le-ltb}
 use Rattle.lapjv_definition.specs.Private.{carr_take}
-use Rattle.lapjv_definition.proofs.EntryLaws.{free_true, free_false, row_is}
+use Rattle.lapjv_definition.proofs.EntryLaws.{owned, not_owned}
 use Rattle.lapjv_reduction.proofs.carr.carr_take.Goals as goal
 
-pub returns-then-is_free : goal.returns-then-is_free
+pub returns-in_default : goal.returns-in_default
 unfolding carr_take
-returns-then-is_free c = λ v. rw (le-ltb _ _ (free_true _ _ (sym c.is_free.ensures ∙ c.if-is_free.true)))
+returns-in_default c = λ v. rw (le-ltb _ _ (not_owned _ _ (sym c.owner_of-owner.ensures ∙ c.in_default.is)))
 
 pub returns-then-retry : goal.returns-then-retry
 unfolding carr_take
-returns-then-retry c = let q = free_false _ _ (sym c.is_free.ensures ∙ c.if-is_free.false) in λ v. rw (lt-ltb _ _ q, c.if-retry.true, c.row_of-r.ensures ∙ row_is _ _ q)
+returns-then-retry c = let q = owned _ _ (sym c.owner_of-owner.ensures ∙ c.in-Some.is) in λ v. rw (lt-ltb _ _ q.0, c.if-retry.true, q.1)
 
 pub returns : goal.returns
 unfolding carr_take
-returns c = let q = free_false _ _ (sym c.is_free.ensures ∙ c.if-is_free.false) in λ v. rw (lt-ltb _ _ q, c.if-retry.false, c.row_of-r.ensures ∙ row_is _ _ q)
+returns c = let q = owned _ _ (sym c.owner_of-owner.ensures ∙ c.in-Some.is) in λ v. rw (lt-ltb _ _ q.0, c.if-retry.false, q.1)

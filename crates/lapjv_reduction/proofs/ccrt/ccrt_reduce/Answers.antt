@@ -1,10 +1,6 @@
 -- `ccrt_reduce` meets its contract. The invariant: what is left of the definition's rows gives the whole, and no more rows are listed than passed; the measure is the rows left. Assumes nothing.
-use Rattle.lapjv_definition.proofs.CcrtLaws.{red_again, red_done, red_start}
+use Rattle.lapjv_definition.proofs.CcrtLaws.{red_again, red_done}
 use Rattle.lapjv_reduction.proofs.ccrt.ccrt_reduce.Goals as goal
-
-pub loop-i-init : goal.loop-i-init
-loop-i-init c =
-    red_start c.requires.1 c.requires.3
 
 pub loop-i-preserved : goal.loop-i-preserved
 loop-i-preserved c =

@@ -6,5 +6,5 @@ use Rattle.lapjv_reduction.proofs.entry.owner_of.Goals as goal
 pub returns-then-r-n : goal.returns-then-r-n
 returns-then-r-n c = sym (owner_row _ _ c.if-r-n.true)
 
-pub returns : goal.returns
-returns c = sym (owner_free _ _ c.if-r-n.false)
+pub returns-else-r-n : goal.returns-else-r-n
+returns-else-r-n c = sym (owner_free _ _ c.if-r-n.false)

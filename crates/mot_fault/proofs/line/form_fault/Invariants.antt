@@ -1,10 +1,6 @@
--- `line::form_fault` meets its contract. The loop's invariant: the fields before place `at` are fine, and what is left decides. The measure is how many fields are left. Assumes nothing.
-use Prim.Native.Nat.{◌-◌}
+-- `line::form_fault` meets its contract. The loop's invariant: the fields before place `at` are fine, and what is left decides. Assumes nothing.
 use Rattle.mot_fault.proofs.Walking.{Looked}
 use Rattle.mot_fault.proofs.line.form_fault.Given as goal
 
 abbrev pub invariant-loop-i : goal.invariant-loop-i
 invariant-loop-i l = Looked l.body l.at l.i
-
-abbrev pub decreases-loop-i : goal.decreases-loop-i
-decreases-loop-i l = 11 - l.i

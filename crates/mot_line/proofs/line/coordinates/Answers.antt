@@ -6,25 +6,25 @@ use Rattle.mot_line.proofs.Reaching.{minus-one-within, minus-one_stops, reach_st
 use Rattle.mot_line.proofs.line.coordinates.Goals as goal
 
 pub slice_bounds-from_y-count : goal.slice_bounds-from_y-count
-slice_bounds-from_y-count c = minus-one-within _ c.in-Before.ensures
+slice_bounds-from_y-count c = minus-one-within _ c.in-Some.ensures
 
 pub slice_bounds-from_y-start : goal.slice_bounds-from_y-start
-slice_bounds-from_y-start c = minus-one-within _ c.in-Before.ensures
+slice_bounds-from_y-start c = minus-one-within _ c.in-Some.ensures
 
 pub slice_bounds-minus_one-count : goal.slice_bounds-minus_one-count
-slice_bounds-minus_one-count c = minus-one-within _ c.in-Before-minus_one_field.ensures
+slice_bounds-minus_one-count c = minus-one-within _ c.in-Some-minus_one_field.ensures
 
 pub slice_bounds-minus_one-start : goal.slice_bounds-minus_one-start
-slice_bounds-minus_one-start c = minus-one-within _ c.in-Before-minus_one_field.ensures
+slice_bounds-minus_one-start c = minus-one-within _ c.in-Some-minus_one_field.ensures
 
 pub returns-in_default : goal.returns-in_default
-returns-in_default c = sym (reach_off (reach_start c.args.rest.now coordinates) refl (minus-one_stops _ _ c.in_default.ensures refl))
+returns-in_default c = sym (reach_off (reach_start c.args.rest.now coordinates) refl (minus-one_stops _ c.in_default.ensures))
 
 pub returns-in_default-minus_one_field : goal.returns-in_default-minus_one_field
 returns-in_default-minus_one_field c =
-    sym (reach_off (reach-minus-one (reach_start c.args.rest.now coordinates) c.in-Before.ensures) refl (minus-one_stops _ _ c.in_default-minus_one_field.ensures refl))
+    sym (reach_off (reach-minus-one (reach_start c.args.rest.now coordinates) c.in-Some.ensures) refl (minus-one_stops _ c.in_default-minus_one_field.ensures))
 
 pub returns : goal.returns
 returns c =
-    let end = reach-minus-one (reach-minus-one (reach_start c.args.rest.now coordinates) c.in-Before.ensures) c.in-Before-minus_one_field.ensures in
+    let end = reach-minus-one (reach-minus-one (reach_start c.args.rest.now coordinates) c.in-Some.ensures) c.in-Some-minus_one_field.ensures in
     c.minus_one.ensures ∙ sym (laws.last-minus-one _) ∙ sym end.asked

@@ -5,7 +5,7 @@ use Prim.Native.Nat.{ℕ, ◌^◌, ◌<◌}
 use native.Mathlib.Omega.{arith}
 use lib.Ieee.{binary32, round, of_bits}
 use Rattle.mot_number.proofs.Rounded.{round_zero}
-use Rattle.mot_number.proofs.Quotient.{zeros_lt, spare_lt, spare_ge, more_le, unit_some, unit_few, unit_whole, quotient_kept, quotient-rounds}
+use Rattle.mot_number.proofs.Quotient.{bool_is, zeros_lt, spare_lt, spare_ge, more_le, unit_some, unit_few, unit_whole, quotient_kept, quotient-rounds}
 use Rattle.mot_number.proofs.fraction.magnitude.Goals as goal
 
 -- nothing over den is 0
@@ -32,41 +32,41 @@ pub overflow_sub-unit : goal.overflow_sub-unit
 overflow_sub-unit c = spare_ge c.args.num c.args.den c.if-num-eq0.false c.ranges.num.fits c.requires.fact_1 c.requires.fact_2
 
 pub overflow_add-unit : goal.overflow_add-unit
-overflow_add-unit c = record { fits = omega (arith, spare_lt c.args.num c.args.den c.if-num-eq0.false c.ranges.num.fits c.requires.fact_1 c.requires.fact_2, more_le c.args.num c.args.den c.if-num-eq0.false c.ranges.num.fits c.requires.fact_1 c.requires.fact_2 c.at_least-more.result c.at_least-more.ensures) }
+overflow_add-unit c = record { fits = omega (arith, spare_lt c.args.num c.args.den c.if-num-eq0.false c.ranges.num.fits c.requires.fact_1 c.requires.fact_2, more_le c.args.num c.args.den c.if-num-eq0.false c.ranges.num.fits c.requires.fact_1 c.requires.fact_2 c.from-more.result (c.from-more.ensures ∙ bool_is _)) }
 
 pub overflow_cast-unit : goal.overflow_cast-unit
-overflow_cast-unit c = record { fits = omega (arith, spare_lt c.args.num c.args.den c.if-num-eq0.false c.ranges.num.fits c.requires.fact_1 c.requires.fact_2, more_le c.args.num c.args.den c.if-num-eq0.false c.ranges.num.fits c.requires.fact_1 c.requires.fact_2 c.at_least-more.result c.at_least-more.ensures) }
+overflow_cast-unit c = record { fits = omega (arith, spare_lt c.args.num c.args.den c.if-num-eq0.false c.ranges.num.fits c.requires.fact_1 c.requires.fact_2, more_le c.args.num c.args.den c.if-num-eq0.false c.ranges.num.fits c.requires.fact_1 c.requires.fact_2 c.from-more.result (c.from-more.ensures ∙ bool_is _)) }
 
 pub overflow_shl-unit : goal.overflow_shl-unit
 overflow_shl-unit c =
     let low = spare_ge c.args.num c.args.den c.if-num-eq0.false c.ranges.num.fits c.requires.fact_1 c.requires.fact_2 in
     let high = spare_lt c.args.num c.args.den c.if-num-eq0.false c.ranges.num.fits c.requires.fact_1 c.requires.fact_2 in
-    let more = more_le c.args.num c.args.den c.if-num-eq0.false c.ranges.num.fits c.requires.fact_1 c.requires.fact_2 c.at_least-more.result c.at_least-more.ensures in
+    let more = more_le c.args.num c.args.den c.if-num-eq0.false c.ranges.num.fits c.requires.fact_1 c.requires.fact_2 c.from-more.result (c.from-more.ensures ∙ bool_is _) in
     omega arith
 
 pub nearest-requires : goal.nearest-requires
 nearest-requires c =
     let at = c.if-num-eq0.false in
-    let w = unit_whole c.args.num c.args.den at c.ranges.num.fits c.requires.fact_1 c.requires.fact_2 c.at_least-more.result c.at_least-more.ensures in
+    let w = unit_whole c.args.num c.args.den at c.ranges.num.fits c.requires.fact_1 c.requires.fact_2 c.from-more.result (c.from-more.ensures ∙ bool_is _) in
     let asked = subst (λ (x : ℕ). (1 < x) × (x < 2 ^ 42)) (sym w) (
-      unit_some c.args.num c.args.den at c.ranges.num.fits c.requires.fact_1 c.requires.fact_2 c.at_least-more.result c.at_least-more.ensures,
-      unit_few c.args.num c.args.den at c.ranges.num.fits c.requires.fact_1 c.requires.fact_2 c.at_least-more.result c.at_least-more.ensures,
+      unit_some c.args.num c.args.den at c.ranges.num.fits c.requires.fact_1 c.requires.fact_2 c.from-more.result (c.from-more.ensures ∙ bool_is _),
+      unit_few c.args.num c.args.den at c.ranges.num.fits c.requires.fact_1 c.requires.fact_2 c.from-more.result (c.from-more.ensures ∙ bool_is _),
     ) in record { fact_1 = asked.0; fact_2 = asked.1 }
 
 pub overflow_add-spare : goal.overflow_add-spare
 overflow_add-spare c = record { fits = omega (arith, spare_lt c.args.num c.args.den c.if-num-eq0.false c.ranges.num.fits c.requires.fact_1 c.requires.fact_2) }
 
 pub overflow_add-spare-2 : goal.overflow_add-spare-2
-overflow_add-spare-2 c = record { fits = omega (arith, spare_lt c.args.num c.args.den c.if-num-eq0.false c.ranges.num.fits c.requires.fact_1 c.requires.fact_2, more_le c.args.num c.args.den c.if-num-eq0.false c.ranges.num.fits c.requires.fact_1 c.requires.fact_2 c.at_least-more.result c.at_least-more.ensures) }
+overflow_add-spare-2 c = record { fits = omega (arith, spare_lt c.args.num c.args.den c.if-num-eq0.false c.ranges.num.fits c.requires.fact_1 c.requires.fact_2, more_le c.args.num c.args.den c.if-num-eq0.false c.ranges.num.fits c.requires.fact_1 c.requires.fact_2 c.from-more.result (c.from-more.ensures ∙ bool_is _)) }
 
 pub overflow_sub-spare : goal.overflow_sub-spare
 overflow_sub-spare c = omega (arith, zeros_lt c.args.num c.args.den c.if-num-eq0.false c.ranges.num.fits c.requires.fact_1 c.requires.fact_2)
 
 pub packed-requires : goal.packed-requires
 packed-requires c =
-    let k = quotient_kept c.args.num c.args.den c.if-num-eq0.false c.ranges.num.fits c.requires.fact_1 c.requires.fact_2 c.at_least-more.result c.at_least-more.ensures c.nearest.result c.nearest.ensures in
-    record { fact_1 = k.0; fact_2 = k.1; fact_3 = omega (arith, spare_lt c.args.num c.args.den c.if-num-eq0.false c.ranges.num.fits c.requires.fact_1 c.requires.fact_2, more_le c.args.num c.args.den c.if-num-eq0.false c.ranges.num.fits c.requires.fact_1 c.requires.fact_2 c.at_least-more.result c.at_least-more.ensures) }
+    let k = quotient_kept c.args.num c.args.den c.if-num-eq0.false c.ranges.num.fits c.requires.fact_1 c.requires.fact_2 c.from-more.result (c.from-more.ensures ∙ bool_is _) c.nearest.result c.nearest.ensures in
+    record { fact_1 = k.0; fact_2 = k.1; fact_3 = omega (arith, spare_lt c.args.num c.args.den c.if-num-eq0.false c.ranges.num.fits c.requires.fact_1 c.requires.fact_2, more_le c.args.num c.args.den c.if-num-eq0.false c.ranges.num.fits c.requires.fact_1 c.requires.fact_2 c.from-more.result (c.from-more.ensures ∙ bool_is _)) }
 
 pub returns : goal.returns
 returns c =
-    c.packed.ensures ∙ quotient-rounds c.args.num c.args.den c.if-num-eq0.false c.ranges.num.fits c.requires.fact_1 c.requires.fact_2 c.at_least-more.result c.at_least-more.ensures c.nearest.result c.nearest.ensures
+    c.packed.ensures ∙ quotient-rounds c.args.num c.args.den c.if-num-eq0.false c.ranges.num.fits c.requires.fact_1 c.requires.fact_2 c.from-more.result (c.from-more.ensures ∙ bool_is _) c.nearest.result c.nearest.ensures

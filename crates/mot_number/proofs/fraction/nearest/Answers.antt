@@ -3,7 +3,7 @@ use mathlib.Core.Path.{ap, ◌∙◌}
 use Prim.Native.Nat.{ℕ, ◌+◌, ◌*◌, ◌/◌, ◌<◌, ◌≤◌}
 use native.Mathlib.Nat.{mod-lt, le_trans, mul-le-mul_left, div-mul-le_self}
 use native.Mathlib.Omega.{arith}
-use Rattle.mot_number.proofs.Quotient.{rounds_up}
+use Rattle.mot_number.proofs.Quotient.{bool_is, one_most, rounds_up}
 use Rattle.mot_number.proofs.fraction.nearest.Goals as goal
 
 -- a quotient by 2 or more leaves room for one more
@@ -17,7 +17,7 @@ pub overflow_add-n : goal.overflow_add-n
 overflow_add-n c = record { fits = omega (arith, c.requires.fact_2, mod-lt c.args.n {m = c.args.unit} (omega (arith, c.requires.fact_1))) }
 
 pub overflow_add-result : goal.overflow_add-result
-overflow_add-result c = record { fits = omega (arith, half c.args.n c.args.unit c.requires.fact_1, c.above.ensures.fact_2, c.ranges.n.fits) }
+overflow_add-result c = record { fits = omega (arith, half c.args.n c.args.unit c.requires.fact_1, one_most _ _ c.from.ensures, c.ranges.n.fits) }
 
 pub returns : goal.returns
-returns c = ap (λ (x : ℕ). c.args.n / c.args.unit + x) c.above.ensures.fact_1 ∙ rounds_up c.args.n c.args.unit
+returns c = ap (λ (x : ℕ). c.args.n / c.args.unit + x) (c.from.ensures ∙ bool_is _) ∙ rounds_up c.args.n c.args.unit

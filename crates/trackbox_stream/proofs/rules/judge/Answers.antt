@@ -1,13 +1,9 @@
 -- `rules::judge` meets its contract: each return is the definition's case where the tests are as that return found them. Assumes nothing.
-use Rattle.trackbox_stream.proofs.Cases.{ahead-low}
 use Rattle.trackbox_stream.proofs.Returns.{back, far, later, full, same}
 use Rattle.trackbox_stream.proofs.rules.judge.Goals as goal
 
 pub returns-then-frame-previous : goal.returns-then-frame-previous
 returns-then-frame-previous c = let a = c.args in back a.state _ a.frame c.nth_after-nth.ensures c.if-frame-previous.true
-
-pub overflow_sub-frame : goal.overflow_sub-frame
-overflow_sub-frame c = let a = c.args in ahead-low a.state a.frame c.if-frame-previous.false
 
 pub returns-then-frame-previous-gt1000 : goal.returns-then-frame-previous-gt1000
 returns-then-frame-previous-gt1000 c =

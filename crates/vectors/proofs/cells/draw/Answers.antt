@@ -1,4 +1,4 @@
--- `vectors::cells::draw` meets its contract. The loop's invariant: the first k cells are drawn, and the others as they were. The measure is what is left of the slice. Assumes nothing.
+-- `vectors::cells::draw` meets its contract. The loop's invariant: the first k cells are drawn, and the others as they were. Assumes nothing.
 use mathlib.Core.Path.{refl}
 use native.Mathlib.Omega.{arith}
 use Rattle.laws.specs.Tab.{fill_start, fill_whole}

@@ -1,5 +1,4 @@
--- `vectors::cells::draw` meets its contract. The loop's invariant: the first k cells are drawn, and the others as they were. The measure is what is left of the slice. Assumes nothing.
-use Prim.Native.Nat.{◌-◌}
+-- `vectors::cells::draw` meets its contract. The loop's invariant: the first k cells are drawn, and the others as they were. Assumes nothing.
 use lib.ListN.{length, get_or}
 use lib.Ieee.{nan}
 use Rattle.laws.specs.Tab.{Filling}
@@ -8,6 +7,3 @@ use Rattle.vectors.proofs.cells.draw.Given as goal
 
 abbrev pub invariant-loop-k : goal.invariant-loop-k
 invariant-loop-k l = Filling (λ i. cell l.seed l.spread l.step l.from i (get_or l.initial.out i nan)) l.initial.out (length l.initial.out) l.k l.out
-
-abbrev pub decreases-loop-k : goal.decreases-loop-k
-decreases-loop-k l = length l.initial.out - l.k

@@ -5,4 +5,4 @@ use Rattle.vectors.proofs.input.bytes.Goals as goal
 
 pub returns : goal.returns
 returns c =
-    c.read_full.auto.buf ∙ ap length c.bytes-part.ensures
+    c.read_full.auto.buf ∙ ap length c.first-part.ensures

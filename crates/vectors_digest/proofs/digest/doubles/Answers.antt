@@ -1,14 +1,15 @@
--- `vectors_digest::digest::doubles` meets its contract. The loop's invariant: the first k elements are joined. The measure is the number of elements left. Assumes nothing.
-use lib.Ieee.{nan}
-use Rattle.laws.specs.Folding.{fold_on, fold_start}
+-- `digest::doubles` meets its contract: std's `fold` joins a word after the other. Assumes nothing.
+use mathlib.Core.Path.{◌∙◌}
+use Rattle.std.proofs.Common.{rules}
+use Rattle.std.proofs.lemmas.Iterator.{YieldsList-from_slice}
+use Rattle.std.proofs.lemmas.Iterator.Consumers.{fold_from_yields_List}
+use Rattle.vectors_digest.specs.Digest.{joined}
+use Rattle.vectors_digest.specs.Floats.{wide_word}
 use Rattle.vectors_digest.proofs.Digesting.{digested}
 use Rattle.vectors_digest.proofs.digest.doubles.Goals as goal
 
-pub loop-k-preserved : goal.loop-k-preserved
-loop-k-preserved c = fold_on c.loop-k.invariant c.loop-k-test.true c.double-sum.ensures
-
-pub loop-k-init : goal.loop-k-init
-loop-k-init c = fold_start
-
 pub returns : goal.returns
-returns c = digested _ nan _ _ _ _ c.loop-k.invariant c.loop-k-test.false
+returns c =
+    let s = c.args.s.now in
+    fold_from_yields_List _ (λ d x. joined d (wide_word x)) c.args.start c.fold.result c.fold.ensures.ran (YieldsList-from_slice s cc) (λ d x b q k. search rules)
+    ∙ digested (wide_word) c.args.start s

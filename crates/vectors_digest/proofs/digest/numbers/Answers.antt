@@ -1,13 +1,15 @@
--- `vectors_digest::digest::numbers` meets its contract. The loop's invariant: the first k elements are joined. The measure is the number of elements left. Assumes nothing.
-use Rattle.laws.specs.Folding.{fold_on, fold_start}
+-- `digest::numbers` meets its contract: std's `fold` joins a word after the other. Assumes nothing.
+use mathlib.Core.Path.{◌∙◌}
+use Prim.Native.Nat.{ℕ}
+use Rattle.std.proofs.Common.{rules}
+use Rattle.std.proofs.lemmas.Iterator.{YieldsList-from_slice}
+use Rattle.std.proofs.lemmas.Iterator.Consumers.{fold_from_yields_List}
+use Rattle.vectors_digest.specs.Digest.{joined}
 use Rattle.vectors_digest.proofs.Digesting.{digested}
 use Rattle.vectors_digest.proofs.digest.numbers.Goals as goal
 
-pub loop-k-preserved : goal.loop-k-preserved
-loop-k-preserved c = fold_on c.loop-k.invariant c.loop-k-test.true c.number-sum.ensures
-
-pub loop-k-init : goal.loop-k-init
-loop-k-init c = fold_start
-
 pub returns : goal.returns
-returns c = digested _ 0 _ _ _ _ c.loop-k.invariant c.loop-k-test.false
+returns c =
+    let s = c.args.s.now in
+    fold_from_yields_List _ (λ d x. joined d (x)) c.args.start c.fold.result c.fold.ensures.ran (YieldsList-from_slice s cc) (λ d x b q k. search rules)
+    ∙ digested (λ (n : ℕ). n) c.args.start s

@@ -1,10 +1,7 @@
--- `turns::run` is safe and ends. The loop's invariant: the text keeps its length. The measure is the count of turns that is left. Assumes nothing.
+-- `turns::run` is safe and ends. The loop's invariant: the text keeps its length. Assumes nothing.
 use mathlib.Core.Path.{◌≡◌}
 use lib.ListN.{length}
 use Rattle.why_io.proofs.turns.run.Given as goal
 
-abbrev pub invariant-loop-turns : goal.invariant-loop-turns
-invariant-loop-turns g l = length l.text ≡ length l.initial.text
-
-abbrev pub decreases-loop-turns : goal.decreases-loop-turns
-decreases-loop-turns g l = l.turns
+abbrev pub invariant-turns : goal.invariant-turns
+invariant-turns g l = length l.text ≡ length l.initial.text

@@ -7,12 +7,12 @@ returns-in_default c =
     let a = c.args in
     decide-none a.frame a.feed a.item c.next_due.ensures c.in_default.is c.onward.ensures
 
-pub returns-then-n-frame : goal.returns-then-n-frame
-returns-then-n-frame c =
+pub returns-then-due-frame : goal.returns-then-due-frame
+returns-then-due-frame c =
     let a = c.args in
-    decide-here a.frame a.feed a.item c.next_due.ensures c.in-Frame.is c.if-n-frame.true
+    decide-here a.frame a.feed a.item c.next_due.ensures c.in-Some.is c.if-due-frame.true
 
 pub returns : goal.returns
 returns c =
     let a = c.args in
-    decide_other a.frame a.feed a.item c.next_due.ensures c.in-Frame.is c.if-n-frame.false c.onward-2.ensures
+    decide_other a.frame a.feed a.item c.next_due.ensures c.in-Some.is c.if-due-frame.false c.onward-2.ensures

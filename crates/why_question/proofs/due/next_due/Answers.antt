@@ -3,7 +3,7 @@ use Rattle.why_question.proofs.DecideLaws.{empty-due, next-due, end-due}
 use Rattle.why_question.proofs.due.next_due.Goals as goal
 
 pub returns-then-empty-gt0 : goal.returns-then-empty-gt0
-returns-then-empty-gt0 c = empty-due c.args.feed c.args.item c.if-empty-gt0.true c.less.ensures
+returns-then-empty-gt0 c = empty-due c.args.feed c.args.item c.if-empty-gt0.true c.saturating_sub.ensures
 
 pub returns-in-Record : goal.returns-in-Record
 returns-in-Record c =

@@ -1,11 +1,6 @@
--- `question::number_of` meets its contract. The loop's invariant: what is left of the word behind the number so far gives the whole. The measure is the bytes that are left. Assumes nothing.
-use Prim.Native.Nat.{◌-◌}
-use lib.ListN.{length}
+-- `question::number_of` meets its contract. The loop's invariant: what is left of the word behind the number so far gives the whole. Assumes nothing.
 use Rattle.why_question.proofs.NumberLaws.{Reading}
 use Rattle.why_question.proofs.question.number_of.Given as goal
 
-abbrev pub invariant-loop-i : goal.invariant-loop-i
-invariant-loop-i l = Reading l.word l.i l.n
-
-abbrev pub decreases-loop-i : goal.decreases-loop-i
-decreases-loop-i l = length l.word - l.i
+abbrev pub invariant-loop-b : goal.invariant-loop-b
+invariant-loop-b l = Reading l.word l.b-index l.n

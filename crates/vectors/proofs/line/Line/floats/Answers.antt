@@ -1,13 +1,14 @@
--- `vectors::line::Line::floats` meets its contract. The loop's invariant: the first k floats are in the line. The measure is the number of floats left. Assumes nothing.
-use Rattle.laws.specs.Folding.{fold_on, fold_start}
+-- `vectors::line::Line::floats` meets its contract: std's `fold` adds one after the other. Assumes nothing.
+use mathlib.Core.Path.{◌∙◌}
+use Rattle.std.proofs.Common.{rules}
+use Rattle.std.proofs.lemmas.Iterator.{YieldsList-from_slice}
+use Rattle.std.proofs.lemmas.Iterator.Consumers.{fold_from_yields_List}
+use Rattle.vectors.specs.Line.{float}
 use Rattle.vectors.proofs.Printing.{listed}
 use Rattle.vectors.proofs.line.Line.floats.Goals as goal
 
-pub loop-k-preserved : goal.loop-k-preserved
-loop-k-preserved c = fold_on c.loop-k.invariant c.loop-k-test.true c.float-line.ensures
-
-pub loop-k-init : goal.loop-k-init
-loop-k-init c = fold_start
-
 pub returns : goal.returns
-returns c = listed _ _ _ _ c.loop-k.invariant c.loop-k-test.false
+returns c =
+    let s = c.args.s.now in
+    fold_from_yields_List _ float c.args.self c.fold.result c.fold.ensures.ran (YieldsList-from_slice s cc) (λ l x b q k. search rules)
+    ∙ listed s c.args.self

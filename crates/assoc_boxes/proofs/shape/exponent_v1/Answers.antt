@@ -1,5 +1,0 @@
--- `shape::exponent_v1` meets its contract: the definition's operations in its order. Assumes nothing.
-use Rattle.assoc_boxes.proofs.shape.exponent_v1.Goals as goal
-
-pub returns : goal.returns
-returns c = cc

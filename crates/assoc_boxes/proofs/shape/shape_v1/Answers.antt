@@ -1,8 +1,0 @@
--- `shape::shape_v1` meets its contract: the exponential of its exponent. Assumes nothing.
-use mathlib.Core.Path.{◌∙◌}
-use Rattle.assoc_boxes.specs.Shape.{shape_v1}
-use Rattle.assoc_boxes.proofs.shape.shape_v1.Goals as goal
-
-pub returns : goal.returns
-unfolding shape_v1
-returns c = c.exp.ensures ∙ rw c.exponent_v1.ensures

@@ -1,0 +1,13 @@
+-- The answers of `duo::Candidates::mark_remaining`: it meets its contract. Its invariant is in Invariants.antt. Assumes nothing.
+use Rattle.std.proofs.Common.{refl, le_refl}
+use Rattle.laws.specs.Tab.{fill_on, fill_start, fill_whole}
+use Rattle.boost_tracker_duo.proofs.duo.Candidates.mark_remaining.Goals as goal
+
+pub loop-i-preserved : goal.loop-i-preserved
+loop-i-preserved c = fill_on _ _ _ c.loop-i.invariant c.loop-i-test.true (le_refl _) c.remains.ensures
+
+pub returns : goal.returns
+returns c = fill_whole _ _ _ c.loop-i.invariant c.loop-i-test.false refl
+
+pub loop-i-init : goal.loop-i-init
+loop-i-init c = fill_start _ _ _

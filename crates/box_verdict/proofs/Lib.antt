@@ -1,2 +1,0 @@
--- What more than one proof uses.
-pub mod FiniteTest

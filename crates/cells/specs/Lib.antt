@@ -1,0 +1,2 @@
+-- What filling a slice by a closure leaves.
+pub mod Filled

@@ -1,8 +1,0 @@
--- `skip` is safe and ends. Nothing has to hold from turn to turn. The measure is the count that is left. Assumes nothing.
-use Rattle.trackbox_streams.proofs.skip.Given as goal
-
-abbrev pub invariant-loop-left : goal.invariant-loop-left
-invariant-loop-left l = Unit {0}
-
-abbrev pub decreases-loop-left : goal.decreases-loop-left
-decreases-loop-left l = l.left

@@ -1,7 +1,0 @@
--- `vectors_digest::digest::double` meets its contract: what is joined is the element's word. Assumes nothing.
-use mathlib.Core.Path.{ap, ◌∙◌}
-use Rattle.vectors_digest.specs.Digest.{joined}
-use Rattle.vectors_digest.proofs.digest.double.Goals as goal
-
-pub returns : goal.returns
-returns c = c.join.ensures ∙ ap (joined c.args.sum) c.wide_word.ensures
