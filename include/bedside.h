@@ -7,7 +7,7 @@
  * ---- What the library does not do ----
  * It allocates nothing, keeps nothing between calls and has no data of its own: 50 kB of code, no variables. Every call
  * is reentrant, from any thread, and two trackers are two tables. No call fails but by its refusal number, overflows,
- * runs forever, or touches memory that it was not lent. Of other code it calls memset and memmove alone.
+ * runs forever, or touches memory that it was not lent. Of other code it calls memset alone.
  *
  * ---- What a caller guarantees ----
  * - x86-64 Linux, with its calling convention. The code needs no more than SSE2, and links into programs and shared

@@ -1,5 +1,5 @@
--- Whenever associating is accepted, for any bit patterns, no two pairs share a box or a track, every pair's IoU is at least the threshold, pairs with unmatched boxes hold
--- each box exactly once, the same for tracks, and no pair joins unequal labels. `accounted_for` of proofs/Theorem.antt proves it of every accepted call, and `associate-lists` of the definition.
+-- Document 02, N7, its first half: "Whenever associating is accepted, for any bit patterns, no two pairs share a box or a track, every pair's IoU is at least the threshold, and pairs with unmatched boxes hold
+-- each box exactly once, and the same for tracks. .. No pair joins unequal labels." `accounted_for` of proofs/Theorem.antt proves it of every accepted call, and `associate-lists` of the definition.
 -- A frame pairs by `associate_within`, whose contract cites the same definition: what is said of the definition is said of frames too.
 use Rattle.std.specs.Prelude.{Result, ◌≡◌, true, List, ◌++◌, ℕ, ◌≤◌, ◌<◌, ltb, Float, length, get_or, take}
 use Rattle.std.specs.Float.Ieee.{le}

@@ -1,4 +1,4 @@
--- What a call of associate says and leaves in lent memory, by its verdict.
+-- What a call of associate says and leaves in lent memory, by its verdict: document 01, "When a call is turned down", Pairs.
 use Rattle.std.specs.Prelude.{List, ℕ, ◌*◌, Float, length, take}
 use Rattle.std.specs.Float.{binary32}
 use Rattle.std.specs.Float.Ieee.{of_bits}

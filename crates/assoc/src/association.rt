@@ -1,4 +1,4 @@
-// associate of assoc.rs, with labels: the costs of boxes and tracks in lent memory, and the assignment by them.
+// associate of assoc.rs, with the labels of document 02, N2: the costs of boxes and tracks in lent memory, and the assignment by them.
 ghost use Rattle.std.specs.Prelude.{◌≡◌, true, ◌*◌, ◌≤◌, length, take, drop, Ok};
 ghost use Rattle.std.specs.Float.{nan};
 ghost use Rattle.laws.specs.Grid.{cell_at, grid};

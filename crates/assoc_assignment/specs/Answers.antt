@@ -1,4 +1,4 @@
--- What a call of linear_assignment says and leaves in lent memory.
+-- What a call of linear_assignment says and leaves in lent memory: document 01, "When a call is turned down", Pairs.
 use Rattle.std.specs.Prelude.{⊤, Result, Ok, Err, Bool, not, ◌||◌, List, ℕ, ◌*◌, max, min, ltb, eqb, Float, length}
 use Rattle.laws.specs.Over.{over}
 use Rattle.refusals.specs.declared.refusal.Refusal.{Refusal}

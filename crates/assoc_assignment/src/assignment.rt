@@ -12,7 +12,7 @@ ghost use Rattle.assoc_assignment.specs.Answers.{lists_with, room_with, lent_wit
 ghost use Rattle.assoc_assignment.specs.Private.{Found, chosen, picked, rejected, Rowed, Mark, Marked, TailRoom, Tails, LeftRoom, leaving_with, leaving, ListRoom, listing_with, listing, AssignmentReady};
 
 use assoc_matching::{Matrix, direct_columns, is_direct, lapjv_partners, put_pairs};
-use refusals::Refusal;
+use refusals::{Refusal, larger, smaller};
 
 // The lengths of the lists, how many pairs were rejected, which are the last of both unmatched lists, and lapjv's row turns and column scans: both 0 on the direct path.
 #[derive(Clone, Copy, Debug, PartialEq, Eq)]
@@ -285,8 +285,8 @@ pub fn assignment_verdict(
     if (ious != cells) | (costs != cells) {
         return Err(Refusal::OtherSize);
     }
-    let few = boxes.min(tracks);
-    let n = boxes.max(tracks);
+    let few = smaller(boxes, tracks);
+    let n = larger(boxes, tracks);
     let short = (room.unmatched_detections < boxes) | (room.unmatched_tracks < tracks);
     if short | (room.pair_boxes < few) | (room.pair_tracks < few) | (work < n * n) {
         return Err(Refusal::TooShort);

@@ -1,4 +1,4 @@
--- The direct path of `match_detections`: what deciding and writing it says and leaves.
+-- The direct path of `match_detections`: document 01, Pairs. What deciding and writing it says and leaves.
 use Rattle.std.specs.Prelude.{Bool, true, false, cond, not, ◌&&◌, List, ℕ, ◌*◌, min, eqb, leb, Float, length, Option, Some, None}
 use Rattle.laws.specs.Over.{over}
 use Rattle.refusals.specs.Refusal.{too_many}

@@ -14,7 +14,7 @@ ghost use Rattle.assoc_direct.specs.Direct.{is_matrix, is_direct, direct_call_wi
 ghost use Rattle.assoc_direct.specs.Private.{RowIn, RowOut};
 
 use super::matrix::Matrix;
-use refusals::too_many;
+use refusals::{smaller, too_many};
 
 // ---- decided
 
@@ -153,7 +153,7 @@ fn match_directly(
 fn fits(nrows: usize, ncols: usize, cells: usize, boxes: usize, tracks: usize) -> bool
     ensures { result ≡ fitting nrows ncols cells boxes tracks }
 {
-    let few = nrows.min(ncols);
+    let few = smaller(nrows, ncols);
     is_matrix(nrows, ncols, cells) & ((few <= boxes) & (few <= tracks))
 }
 

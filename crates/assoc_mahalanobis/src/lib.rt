@@ -92,7 +92,7 @@ pub fn mh_dist_similarity(
     ensures cells { out.new ≡ after result (mh_dist_similarity distance.now softmax_temp boxes tracks) boxes tracks out.old }
 {
     of_distances(boxes, tracks, distance.len(), out.len())?;
-    out[..distance.len()].copy_from_slice(distance);
+    fill(&mut out[..distance.len()], |k, _| distance[k]);
     mh_matrix(boxes, tracks, softmax_temp, out);
     Ok(())
 }

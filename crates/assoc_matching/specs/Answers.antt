@@ -1,4 +1,4 @@
--- What a call of lapjv_partners or of match_detections says and leaves in lent memory.
+-- What a call of lapjv_partners or of match_detections says and leaves in lent memory: document 01, "When a call is turned down", Pairs.
 use Rattle.std.specs.Prelude.{⊤, ℕ, ◌*◌, min, max, not, ◌||◌, List, length, ◌==◌, from_bits, nat_lt, Float, Result, Ok, Err}
 use Rattle.std.specs.Float.{binary64}
 use Rattle.laws.specs.Tab.{tab}
@@ -12,7 +12,7 @@ use Rattle.assoc_matching.specs.Partners.{counts_of, solution, solved_column}
 
 -- ---- a call
 
--- what a call says, the number of its refusal, 0 where it is accepted, and its counts; and what it leaves of what it was lent
+-- what a call says, document 01's number, 0 where it is accepted, and its counts; and what it leaves of what it was lent
 pub record Call (Counts Lent : Type 0) : Type 0 where
   pub number : ℕ
   pub counts : Counts

@@ -11,7 +11,7 @@ ghost use Rattle.assoc_matching.specs.Private.{Whole, Solution, MatchReady};
 
 use assoc_direct::{Matrix, direct_pairs, put_pairs};
 use cells::fill_rows;
-use refusals::Refusal;
+use refusals::{Refusal, larger, smaller};
 
 // The number of pairs, and of lapjv's row turns and column scans: both 0 on the direct path.
 #[derive(Clone, Copy, Debug, PartialEq, Eq)]
@@ -101,7 +101,7 @@ fn solve_rows(cost: Matrix, work: &mut [f64], partner: &mut [u8]) -> lapjv::Coun
     requires rows { length partner.old ≡ cost.nrows }
     ensures { Solution cost.entry.cells.now cost.entry.nrows cost.entry.ncols result partner.new }
 {
-    let n = cost.nrows.max(cost.ncols);
+    let n = larger(cost.nrows, cost.ncols);
     let cells = n * n;
     solve(cost, n, &mut work[..cells], partner)
 }
@@ -118,7 +118,7 @@ fn partner_verdict(
     if (255 < boxes) | (255 < tracks) {
         return Err(Refusal::TooMany);
     }
-    let n = boxes.max(tracks);
+    let n = larger(boxes, tracks);
     if (costs != boxes * tracks) | (partners != boxes) | (n == 0) {
         return Err(Refusal::OtherSize);
     }
@@ -177,8 +177,8 @@ fn match_verdict(
     if costs != boxes * tracks {
         return Err(Refusal::OtherSize);
     }
-    let few = boxes.min(tracks);
-    let n = boxes.max(tracks);
+    let few = smaller(boxes, tracks);
+    let n = larger(boxes, tracks);
     if (pairs < few) | (partners < few) | (work < n * n) {
         return Err(Refusal::TooShort);
     }

@@ -1,5 +1,5 @@
--- The verdict on a call of associate, the one pairing routine that takes labels: label slices of another size count with the other sizes, and a label other than 1 to 3 is looked for
--- after everything else.
+-- The verdict on a call of associate: document 01, "When a call is turned down", Pairs, and document 02, N2: "34 such a label in associating, the one pairing
+-- routine that takes labels, after 33; label slices count under 32." Such a label is one other than 1 to 3.
 use Rattle.std.specs.Prelude.{⊤, Result, ◌≡◌, Bool, not, ◌&&◌, ◌||◌, List, ℕ, ◌*◌, ◌≤◌, max, ltb, eqb, length}
 use Rattle.labels.specs.Label.{unlabelled}
 use Rattle.refusals.specs.declared.refusal.Refusal.{Refusal}

@@ -6,7 +6,7 @@ ghost use Rattle.assoc_verdict.specs.Verdict.{other_size, within_verdict, associ
 use assoc_assignment::{Room, assignment_verdict};
 use assoc_cost::AssociateParams;
 use labels::first_unlabelled;
-use refusals::Refusal;
+use refusals::{Refusal, larger};
 
 // How many boxes and tracks a call has, and how long the lists are that it is given of them.
 // Kept: a call says its sides apart from the lengths of its slices, and one that differs is refused.
@@ -48,7 +48,7 @@ pub fn within_verdict(
     if other_size(params, lengths) {
         return Err(Refusal::OtherSize);
     }
-    let n = boxes.max(tracks);
+    let n = larger(boxes, tracks);
     if work32 < 4 * (n * n) {
         return Err(Refusal::TooShort);
     }

@@ -1,4 +1,4 @@
--- `bedside_forgotten` of include/bedside.h: an answer of `forget` or `forget_set` as the number of its refusal, and the state.
+-- `bedside_forgotten` of include/bedside.h: an answer of `forget` or `forget_set` as document 02's number, and the state.
 use Rattle.boost_tracker_table.specs.Lent.{Table, Call, call_with}
 use Rattle.boost_tracker_forget.specs.Forget.{answer}
 use Rattle.boost_tracker_forget.specs.declared.drops.Forgotten.{Forgotten}

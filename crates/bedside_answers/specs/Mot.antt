@@ -1,4 +1,4 @@
--- `bedside_mot_answer` of include/bedside.h: an answer of `mot_line` as the number of its refusal and the frame number of the record, 0 where there is none.
+-- `bedside_mot_answer` of include/bedside.h: an answer of `mot_line` as document 02's number and the frame number of the record, 0 where there is none.
 use Rattle.std.specs.Prelude.{◌≡◌, List, ℕ, Result}
 use Rattle.mot_line.specs.declared.call.Refusal.{Refusal}
 use Rattle.mot_line.specs.Call.{refusal_number, frame_read, mot_line}

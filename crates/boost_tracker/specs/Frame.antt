@@ -1,4 +1,4 @@
--- What a call of `update` answers and leaves in lent memory. The verdict is the table's; g is the definition's value.
+-- What a call of `update` answers and leaves in lent memory: document 01, "When a call is turned down". The verdict is the table's; g is the definition's value.
 use Rattle.std.specs.Prelude.{List, ℕ, length, Float, ⊤, Result, Ok}
 use Rattle.laws.specs.Laid.{laid}
 use Rattle.assoc_matching.specs.Answers.{zeroed}

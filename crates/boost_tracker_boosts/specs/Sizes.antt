@@ -1,4 +1,4 @@
--- The sizes that a call must have: 31 more than 255 boxes or tracks, 32 a slice of another size than its sides say, 33 a work slice too short.
+-- The sizes that a call must have, as document 01's Pairs has them: 31 more than 255 boxes or tracks, 32 a slice of another size than its sides say, 33 a work slice too short.
 -- Four floats for each box in a list of corners, a score for each, a cell for each box and track in a matrix.
 use Rattle.std.specs.Prelude.{⊤, Result, Ok, Err, Bool, not, ◌||◌, List, ℕ, ◌*◌, ltb, eqb, Float}
 use Rattle.refusals.specs.declared.refusal.Refusal.{Refusal}

@@ -76,7 +76,7 @@ module _ (self : DloSettings) (similarity : ℕ → ℕ → Float) (time_since_u
       let softened : List Float = cond self.soft (soft scores) scores in
       cond (not self.soft && not self.varying) (coefficient scores) (cond self.varying (varying softened) softened)
 
--- where labels differ, the similarity of that box and track is taken as 0, the rich one after its division; by whether box i and tracker j are alike
+-- 02, N2: "Where labels differ, .. the DLO similarity of that box and track [is] taken as 0", the rich one after its division; by whether box i and tracker j are alike
 unfoldable pub dlo_confidence_boost : (ℕ → ℕ → Bool) → DloSettings → List Float → List Float → List Float → (ℕ → ℕ → Float) → (ℕ → ℕ) → ℕ → ℕ → List Float → List Float
 dlo_confidence_boost like self det_bboxes trks confs mh_dist time_since_update dets tracks scores =
     cond (tracks == 0 || dets == 0) scores (boosted self (where_alike like (similarity self det_bboxes trks confs mh_dist dets) plus_zero) time_since_update dets tracks scores)

@@ -1,4 +1,4 @@
--- The sizes that a call must have: 31 more than 255 boxes or tracks, 32 a slice of another size than its sides say, 33 a result or work slice too short.
+-- The sizes that a call must have, as document 01's Pairs has them: 31 more than 255 boxes or tracks, 32 a slice of another size than its sides say, 33 a result or work slice too short.
 -- Four floats for each box and each track in a list of corners, one for each in the others, a cell for each box and track in a matrix.
 use Rattle.std.specs.Prelude.{ℕ, ◌*◌, Bool, not, ◌||◌, ◌==◌, nat_lt, ⊤, Result}
 use Rattle.refusals.specs.declared.refusal.Refusal.{Refusal}

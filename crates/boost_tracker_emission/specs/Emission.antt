@@ -1,4 +1,4 @@
--- The tracks that a frame puts out. A track is emitted if time since update is below 1 and (hit streak at least min_hits or frame count at most min_hits), in table order.
+-- The tracks that a frame puts out: boost_tracker.rs, lines 363-383. A track is emitted if time since update is below 1 and (hit streak at least min_hits or frame count at most min_hits), in table order.
 use Rattle.std.specs.Prelude.{◌≡◌, Bool, ◌&&◌, ◌||◌, List, [], ◌∷◌, ℕ, ltb, leb, length, get_or, Float}
 use Rattle.std.specs.Float.{binary32}
 use Rattle.std.specs.Float.Ieee.{of_bits}

@@ -1,4 +1,4 @@
--- Examples that the definitions compute: the record of a first track, and confidences as they are written.
+-- Examples that the definitions compute: document 01's record of a first track, and confidences as they are written.
 use Rattle.std.specs.Prelude.{◌≡◌, refl, Bool, true, false, List, [], ◌∷◌, map, ℕ}
 use Rattle.std.specs.Float.Ieee.{of_bits, to_bits, add, sub, mul, div, lt, le}
 use Rattle.floats.specs.Known.{f32, bits}
@@ -10,7 +10,7 @@ use Rattle.strack.specs.Strack.{new as new_track, get_state, confidence}
 use Rattle.boost_tracker_table.specs.Table.{Track}
 use Rattle.boost_tracker_emission.specs.Record.{record_of, at_most_one, written}
 
--- ---- a record: the track of the box 10, 20, 32, 64 alone in frame 1 is the one that is known
+-- ---- a record: the track of the box 10, 20, 32, 64 alone in frame 1 is the one that document 01 prints
 
 abbrev corners : Xyxy
 corners = record { x1 = f32 0x4120_0000; y1 = f32 0x41a0_0000; x2 = f32 0x4228_0000; y2 = f32 0x42a8_0000 }
@@ -22,7 +22,7 @@ pub first-record : record_of 1 first_track 1 ≡ lone_track
 unfolding record_of new_track get_state width_of confidence powi of_bits add sub mul div le
 first-record = refl
 
--- ---- confidences: of a track that has a box in the frame, at the ages 0 to 8, without cap_confidence and with it
+-- ---- confidences: of a track that has a box in the frame, at the ages 0 to 8, as in the Rust and with cap_confidence
 
 abbrev seen : ℕ → Track
 seen age = record { kf = first_track.kf; id = 1; since = 0; streak = 3; age = age }

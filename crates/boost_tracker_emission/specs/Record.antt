@@ -1,4 +1,4 @@
--- What is put out of a track, as a track record, the label last; and the record that is written of it.
+-- What boost_tracker.rs emits of a track, lines 365-382, as a track record, the label last; and the record that is written of it.
 use Rattle.std.specs.Prelude.{◌≡◌, refl, Bool, false, cond, List, ℕ, Float}
 use Rattle.std.specs.Float.{binary32}
 use Rattle.std.specs.Float.Ieee.{of_bits, round, lt}

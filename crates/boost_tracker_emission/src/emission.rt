@@ -1,4 +1,4 @@
-// The tracks that a frame puts out, as records in table order.
+// The tracks that a frame puts out: boost_tracker.rs, lines 363-383, as records in table order.
 ghost use Rattle.std.specs.Prelude.{◌≡◌, ◌/◌, min, length};
 ghost use Rattle.records.specs.TrackRecord.{track_bytes};
 ghost use Rattle.boost_tracker_table.specs.Table.{tracks};
@@ -10,7 +10,7 @@ use labels::label_at;
 use records::{TRACK_BYTES, write_track};
 use strack::strack::KalmanBoxTracker;
 
-// `hits` is the setting min_hits, `frame` the frame's number.
+// `hits` is the setting min_hits, `frame` the frame's number, the Rust's frame_count.
 fn emits(t: KalmanBoxTracker, frame: u32, hits: u64) -> bool
     ensures { result ≡ emits frame hits t }
 {

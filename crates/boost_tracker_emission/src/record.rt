@@ -1,4 +1,4 @@
-// What is put out of a track, as a track record; and the record as it is written.
+// What the Rust's update emits of a track, as a track record: boost_tracker.rs, lines 365-382; and the record as it is written.
 ghost use Rattle.std.specs.Prelude.{◌≡◌};
 ghost use Rattle.boost_tracker_emission.specs.Record.{record_of, written};
 

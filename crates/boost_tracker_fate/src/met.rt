@@ -13,7 +13,7 @@ fn box_of(c: Xyxy) -> BoundingBox
     bounding_box(c.x1, c.y1, c.x2, c.y2)
 }
 
-// Under unequal labels the ratio is 0, and the areas are as computed.
+// 02's rule for labels: under unequal ones the ratio is 0, and the areas are as computed.
 fn by_labels(same: bool, o: OverlapAreas) -> OverlapAreas
     ensures { result ≡ label_rule same o }
 {

@@ -37,7 +37,7 @@ fn correct_matched(
     }
 }
 
-// ---- step 7: every retained score is at least det_thresh, so that it is not tested again
+// ---- step 7: every retained score is at least det_thresh, so the Rust's test is left out
 
 fn start_unmatched(
     floats: &mut [f32],

@@ -1,5 +1,5 @@
--- A track is dropped by its id, or a set of tracks in one call. A set is dropped whole or not at all, an empty set changes nothing, otherwise places beyond the new count become zero,
--- the remaining tracks keep their order and values, last id and frame count are unchanged. Turned away: 11, then 10 of the frame; then 101 an id given twice; then 102 an id not held.
+-- Document 02, N11: "Dropping one id is wanted, and the same for a set of ids in one call. A set is dropped whole or not at all, an empty set changes nothing, otherwise places beyond the new count become zero,
+-- the remaining tracks retain order and values, last id and frame count are unchanged .. Turned away: 11, then 10 of the frame; then 101 an id given twice; then 102 an id not held."
 use Rattle.std.specs.Prelude.{◌≡◌, Bool, false, cond, not, ◌||◌, ℕ, length, ⊤, Result, Ok, Err}
 use mathlib.Core.List.{List, [], ◌∷◌}
 use Rattle.laws.specs.Elem.{elem}
@@ -37,7 +37,7 @@ twice (id ∷ ids) = elem id ids || twice ids
 abbrev pub all_held : List Track → List ℕ → Bool
 all_held ts ids = every (λ id. elem id (ids_of ts)) ids
 
--- each reason by its own words, whatever the others say, in the order in which they are said
+-- each reason by its own words, whatever the others say, in 02's order
 abbrev pub conditions : State → Table → List ℕ → List (ForgetRefusal × Bool)
 conditions s t ids =
     (TableNotSound, not (sound_table s t))

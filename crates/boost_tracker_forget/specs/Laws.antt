@@ -1,4 +1,4 @@
--- What holds of drops. proofs/Theorem.antt proves it.
+-- What holds of drops, in document 02's words. proofs/Theorem.antt proves it.
 use Rattle.std.specs.Prelude.{◌≡◌, true, false, List, [], ◌∷◌, ◌++◌, ℕ, ◌+◌, ◌-◌, ◌*◌, ◌≤◌, length, drop, replicate, ⊤, Result, Ok, Err}
 use Rattle.laws.specs.Occurs.{occurs}
 use Rattle.floats.specs.Single.{plus_zero}

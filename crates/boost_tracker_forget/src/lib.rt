@@ -1,4 +1,4 @@
-// Forget one track or a set of them, over the lent table.
+// Forget one track or a set of them, over the lent table: document 02, N11.
 #![tactic(auto)]
 
 mod drops;

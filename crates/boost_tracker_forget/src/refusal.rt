@@ -1,4 +1,4 @@
-// Why a drop is turned down: the first reason that applies, in this order. The first two are those of a frame.
+// Why a drop is turned down: 11 and 10 of the frame, then document 02's 101 and 102; the first reason that applies, in this order.
 ghost use Rattle.std.specs.Prelude.{◌≡◌};
 ghost use Rattle.boost_tracker_forget.specs.Forget as Spec;
 

@@ -1,4 +1,4 @@
--- Over any sequence of accepted frames from an empty table, tracks started equal tracks held plus tracks retired, both counted from the history of frames, and no id is given twice. Tracks that are dropped count as retired.
+-- Document 02, N7: "Over any sequence of accepted frames from an empty table, tracks started equal tracks held plus tracks retired, both counted from the history of frames, and no id is given twice." N11: "Dropped tracks count as retired in N7's balance."
 -- A history is such a sequence: an empty table, and events one after the other, each on the tracker that the one before left. Each event has the ids that it gives and the ids that it retires.
 use Rattle.std.specs.Prelude.{◌≡◌, not, List, [], ◌++◌, ℕ, ◌≤◌, length, drop, ⊤, Result, Ok}
 use Rattle.laws.specs.Sieve.{sieve}
@@ -45,7 +45,7 @@ leaves t f =
     let g : Stages = worked t f in
     tracker_with (state_after g) (holding g.retained (labels_retained f.settings (labels_started f.boxes.labels (labels_of t) g) g) t.table)
 
--- ---- a drop of the tracks that a list names, and what it leaves where it is accepted
+-- ---- a drop of the tracks that a list names, document 02, N11, and what it leaves where it is accepted
 
 abbrev pub dropping : Tracker → List ℕ → Tracker
 dropping t named = tracker_with (dropped t.state t.table named).answer (dropped t.state t.table named).lent

@@ -1,5 +1,5 @@
--- The settings of a tracker: `new` and the `with_` options, each of which keeps every other field.
--- The last field is cap_confidence, under which an emitted confidence above 1 is written as 1. Only the records that are written know it.
+-- The settings of a tracker: boost_tracker.rs, `new`, lines 73-101, and the `with_` options, lines 108-180; ECC's are left out. In the Rust `..self` keeps every other field.
+-- The last field is not the Rust's: cap_confidence, under which an emitted confidence above 1 is written as 1. Only the records that are written know it.
 use Rattle.std.specs.Prelude.{◌≡◌, refl, Bool, true, false, ℕ, Float}
 use Rattle.std.specs.Float.{binary32}
 use Rattle.std.specs.Float.Ieee.{of_bits, round}

@@ -1,4 +1,4 @@
-// The settings of a tracker. Each `with_` option returns the settings that it changed.
+// The settings of a tracker, boost_tracker.rs: `new` and the `with_` options but ECC's, and cap_confidence, which the Rust does not have. Each `with_` option returns the settings that it changed.
 ghost use Rattle.std.specs.Prelude.{◌≡◌};
 ghost use Rattle.boost_tracker_settings.specs.Settings.{new as new_settings, with_lambdas, with_boost, with_boost_plus, with_boost_plus_plus, with_shape_similarity_v1, with_cap_confidence};
 

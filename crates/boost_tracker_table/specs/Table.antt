@@ -1,4 +1,4 @@
--- The lent table: 24 floats, four counters (id, time since update, streak, age) and a label, a byte, a place.
+-- The lent table, document 01, "Records and limits": 24 floats and four counters (id, time since update, streak, age) a place, and 02's N2: a label, a byte, "beside the old fields".
 -- Its meaning is a list of tracks and a list of their labels. An operation on the table says which tracks it leaves in the front (Laying); Emptied also says that every place beyond is zero.
 use Rattle.std.specs.Prelude.{◌≡◌, Bool, not, List, [], ◌∷◌, ◌++◌, map, ℕ, ◌+◌, ◌-◌, ◌*◌, ◌/◌, ◌≤◌, min, leb, length, get_or, set, take, drop, replicate, Float}
 use Rattle.std.specs.Float.{nan}
@@ -73,7 +73,7 @@ blank = record { kf = record { x = blank_pair; y = blank_pair; h = blank_pair; r
 abbrev pub capacity : ℕ → ℕ → ℕ
 capacity floats counters = min (min (floats / place_floats) (counters / place_counters)) 255
 
--- it holds as many tracks as its slices allow, at most 255: the labels are one of its slices
+-- "It holds as many tracks as its slices allow, at most 255": the labels are one of its slices
 abbrev pub places_in : ℕ → ℕ → ℕ → ℕ
 places_in floats counters labels = min (capacity floats counters) labels
 
@@ -116,7 +116,7 @@ young oldest t = leb t.since oldest
 abbrev pub retained : ℕ → List Track → List Track
 retained oldest ts = sieve (young oldest) ts
 
--- the list does not name the track
+-- document 02, N11: the list does not name the track
 abbrev pub unlisted : List ℕ → Track → Bool
 unlisted ids t = not (elem t.id ids)
 

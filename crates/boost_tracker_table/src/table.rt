@@ -109,7 +109,7 @@ fn keep_tracks<F: Fn(KalmanBoxTracker) -> bool>(
     w
 }
 
-// Keeps the held tracks whose time since update is at most `oldest`, in order. How many there are.
+// Keeps the held tracks whose time since update is at most `oldest`, in order: the Rust's `retain`. How many there are.
 pub fn retire(floats: &mut [f32], counters: &mut [u64], held: usize, oldest: u64) -> usize
     ensures { Retired floats.old counters.old held oldest floats.new counters.new result }
 {

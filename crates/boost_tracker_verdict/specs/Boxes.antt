@@ -1,4 +1,4 @@
--- The boxes of a frame as one value: five floats each, left, top, width, height and score, and a label each.
+-- The boxes of a frame as one value: five floats each, document 01's left, top, width, height and score, and 02's N2: a label each.
 use Rattle.std.specs.Prelude.{List, ℕ, Float}
 
 pub record Boxes : Type 0 where

@@ -1,4 +1,4 @@
--- A table is sound if count is at most its capacity, ids rise strictly from 1 or more, none exceeds last id, last id is at most 255 × frame count,
+-- Document 01, "Records and limits": a table is sound if count is at most its capacity, ids rise strictly from 1 or more, none exceeds last id, last id is at most 255 × frame count,
 -- and every counter but id is at most frame count. The labels are one of the slices that give the capacity.
 use Rattle.std.specs.Prelude.{Bool, true, ◌&&◌, List, [], ◌∷◌, ℕ, ◌*◌, leb, ltb}
 use Rattle.laws.specs.Every.{every}

@@ -1,7 +1,7 @@
--- Why a frame is turned down, by number: 11 table not sound; 12 a float of a held track not finite, or a predicted A + R not positive and finite; 13 a float setting not finite;
+-- Document 01, "When a call is turned down", Frame: 11 table not sound; 12 a float of a held track not finite, or a predicted A + R not positive and finite; 13 a float setting not finite;
 -- 14 more than 255 boxes; 15 held tracks plus boxes above the capacity; 16 a box with a value not finite, width or height not above 0, left, top, width or height beyond 65536 in magnitude,
 -- or score outside 0 to 1; 17 frame count 2147483647 or more; 18 output lent for fewer than held plus boxes records; 19 work slices below n × n f64 or 4 × n × n f32, n the larger of held and boxes.
--- 10 a label other than 1 to 3 of a held track, after 11 and before 12; 20 such a label in a box, with the lowest such index, after 16 and before 17.
+-- Document 02, N2: 10 a label other than 1 to 3 of a held track, after 11 and before 12; 20 such a label in a box, with the lowest such index, after 16 and before 17.
 -- The first that applies in the order 11, 10, 12 to 16, 20, 17, 18, 19 is said. A box is `box_values` floats of a slice, a record `track_bytes` bytes, and a rest is not looked at.
 use Rattle.std.specs.Prelude.{Bool, cond, not, ◌&&◌, ◌||◌, List, [], ◌∷◌, ℕ, ◌+◌, ◌*◌, ◌/◌, max, leb, ltb, length, get_or, Float, ⊤, Result, Ok, Err}
 use Rattle.std.specs.Float.{nan}

@@ -1,4 +1,4 @@
-// The lowest box that a frame cannot take.
+// The lowest box that a frame cannot take: document 01's 16.
 ghost use Rattle.std.specs.Prelude.{◌≡◌, ◌+◌, ◌*◌, ◌≤◌, length};
 ghost use Rattle.laws.specs.Scan.{lowest};
 ghost use Rattle.records.specs.BoxRecord.{box_values};

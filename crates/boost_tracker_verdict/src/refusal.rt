@@ -1,4 +1,4 @@
-// Why a frame is turned down: the first reason that applies, in this order. Each has its number beside it.
+// Why a frame is turned down: document 01's 11 to 19 and 02's 10 and 20; the first reason that applies, in this order. Each has its number beside it.
 ghost use Rattle.std.specs.Prelude.{◌≡◌};
 ghost use Rattle.boost_tracker_verdict.specs.Verdict as Spec;
 

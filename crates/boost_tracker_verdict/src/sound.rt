@@ -1,4 +1,4 @@
-// Whether a lent table is sound: no more tracks than places, ids that rise and are few enough, and no counter above the frames.
+// Whether a lent table is sound, document 01, "Records and limits": no more tracks than places, ids that rise and are few enough, and no counter above the frames.
 ghost use Rattle.std.specs.Prelude.{◌≡◌, ◌*◌, leb, length};
 ghost use Rattle.laws.specs.Every.{chain};
 ghost use Rattle.boost_tracker_table.specs.Table.{places_in, tracks};

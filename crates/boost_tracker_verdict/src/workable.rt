@@ -1,4 +1,4 @@
-// Whether the floats of held tracks and of the settings can be worked with.
+// Whether the floats of held tracks and of the settings can be worked with: document 01's 12 and 13.
 ghost use Rattle.std.specs.Prelude.{◌≡◌, [], ◌∷◌};
 ghost use Rattle.std.specs.Float.Ieee.Scale.{finite as ieee_finite};
 ghost use Rattle.laws.specs.Every.{every};
@@ -12,11 +12,11 @@ use box_verdict::finite;
 use strack::strack::KalmanBoxTracker;
 use strack_filter::kalman_filter::{KalmanFilter, Pair};
 
-#[tactic(auto, unfolding(laws::specs::Every::every))]
+// `&`, so that no test waits for the one before: a frame does this for each held track.
 fn six_finite(a: f32, b: f32, c: f32, d: f32, e: f32, f: f32) -> bool
     ensures { result ≡ every ieee_finite (a ∷ b ∷ c ∷ d ∷ e ∷ f ∷ []) }
 {
-    finite(a) && finite(b) && finite(c) && finite(d) && finite(e) && finite(f)
+    finite(a) & finite(b) & finite(c) & finite(d) & finite(e) & finite(f)
 }
 
 fn finite_pair(s: Pair) -> bool
@@ -25,11 +25,10 @@ fn finite_pair(s: Pair) -> bool
     six_finite(s.p, s.v, s.a, s.b, s.c, s.d)
 }
 
-#[tactic(auto, unfolding(laws::specs::Every::every))]
 fn finite_filter(kf: KalmanFilter) -> bool
     ensures { result ≡ every ieee_finite (filter_floats kf) }
 {
-    finite_pair(kf.x) && finite_pair(kf.y) && finite_pair(kf.h) && finite_pair(kf.r)
+    finite_pair(kf.x) & finite_pair(kf.y) & finite_pair(kf.h) & finite_pair(kf.r)
 }
 
 // Every float is finite, and once predicted the track can be corrected.

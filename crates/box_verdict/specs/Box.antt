@@ -1,4 +1,4 @@
--- A frame is turned down by 16 for a box with a value not finite, width or height not above 0, left, top, width or height beyond 65536 in magnitude, or score outside 0 to 1.
+-- Document 01, "When a call is turned down", Frame: "16 a box with a value not finite, width or height not above 0, left, top, width or height beyond 65536 in magnitude, or score outside 0 to 1".
 use Rattle.std.specs.Prelude.{◌≡◌, refl, Bool, true, false, not, ◌&&◌, ◌||◌, [], ◌∷◌, ℕ, Float}
 use Rattle.std.specs.Float.{binary32}
 use Rattle.std.specs.Float.Ieee.{of_bits, neg, lt}

@@ -1,4 +1,4 @@
-// Which boxes a frame can take, of one box.
+// Which boxes a frame can take: document 01's 16, of one box.
 #![tactic(auto)]
 
 ghost use Rattle.std.specs.Prelude.{◌≡◌};

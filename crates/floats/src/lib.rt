@@ -1,6 +1,6 @@
 #![tactic(auto)]
 
-// The square root and the exponential, each by a definition in specs/ that holds for every f32. What picks is in floats_pick, the powers are in floats_power.
+// The float functions of document 01 but those that pick (floats_pick) and the powers (floats_power): the square root and the exponential, each by a definition in specs/ that holds for every f32.
 mod exponential;
 mod packing;
 mod root;

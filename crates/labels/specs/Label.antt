@@ -1,5 +1,5 @@
--- A box and a track carry a label, 1 sleeper, 2 partner, 3 staff, in one byte beside the old fields. Where labels differ, the IoU, the cost given to
--- the pairing and the DLO similarity of that box and track are taken as 0: set to 0, whatever they were, a NaN too.
+-- Document 02, N2: "A box and a track carry a label, 1 sleeper, 2 partner, 3 staff, in one byte beside the old fields. Where labels differ, the IoU, the cost
+-- given to the pairing and the DLO similarity of that box and track are taken as 0": set to 0, whatever they were, a NaN too.
 use Rattle.std.specs.Prelude.{◌≡◌, refl, Bool, true, false, not, cond, ◌&&◌, List, ℕ, leb, ltb, eqb, length, get_or, Float}
 use Rattle.std.specs.Float.{nan}
 use Rattle.laws.specs.Tab.{tab}

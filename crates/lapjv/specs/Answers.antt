@@ -1,4 +1,4 @@
--- What a call of `lapjv` answers, and what it leaves in the two lent slices.
+-- What a call of `lapjv` answers, and what it leaves in the two lent slices. The numbers are document 01's, "When a call is turned down", Assignment.
 use Rattle.std.specs.Prelude.{◌≡◌, cond, List, ℕ, ◌*◌, ◌-◌, ◌/◌, ◌≤◌, ltb, eqb, length, Float, Result, Ok, Err, ⊤}
 use Rattle.lapjv_definition.specs.Bounds.{Paired}
 use Rattle.lapjv_definition.specs.Lapjv.{lapjv}
@@ -19,7 +19,7 @@ verdict_of n costs xs ys =
     (cond (ltb 255 n) (Err SideAbove255)
     (cond (eqb costs (n * n)) (cond (eqb xs n) (cond (eqb ys n) (Ok tt) (Err WrongSize)) (Err WrongSize)) (Err WrongSize)))
 
--- what an answer says: the refusal's number, 0 where the call is accepted, and the counts, both 0 where it is refused
+-- what an answer says: document 01's number, 0 where the call is accepted, and the counts, both 0 where it is refused
 unfoldable pub number_of : Result Counts Refusal → ℕ
 number_of (Ok c) = 0
 number_of (Err why) = refusal_number why

@@ -9,14 +9,15 @@ use crate::cost::{Costs, LARGE};
 use crate::entry::{is_free, owner_of, row_of};
 
 // Lines 29 to 33.
-#[tactic(auto, using(laws::specs::Tab::replicate_tab))]
 fn ccrt_init(n: usize, x: &mut [usize], y: &mut [usize], v: &mut [f64])
     requires { (length x.old ≡ n) × (length y.old ≡ n) × (length v.old ≡ n) }
     ensures { (x.new ≡ tab (λ i. n) n) × (y.new ≡ tab (λ i. 0) n) × (v.new ≡ tab (λ i. large) n) }
 {
-    x.fill(n);
-    y.fill(0);
-    v.fill(LARGE);
+    for i in 0..n {
+        x[i] = n;
+        v[i] = LARGE;
+        y[i] = 0;
+    }
 }
 
 // Lines 37 to 40: row i at column j, whose cost is c.

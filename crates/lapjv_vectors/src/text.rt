@@ -55,7 +55,7 @@ pub(crate) fn lengths(n: usize, cells: usize, rows: usize, columns: usize) {
     number(columns);
 }
 
-// 0, the turns and the scans of an accepted call; the number of a refusal and two zeros.
+// 0, the turns and the scans of an accepted call; the number of a refusal in the scope document and two zeros.
 pub(crate) fn answer(a: Result<Counts, Refusal>) {
     io::write_all(1, b" |");
     match a {

@@ -1,4 +1,4 @@
--- What is wrong with the form of a field: "A number has an optional minus, one to six digits, and optionally a point with one to six digits; the frame is one to six digits alone",
+-- What is wrong with the form of a field: document 02, N1, "A number has an optional minus, one to six digits, and optionally a point with one to six digits; the frame is one to six digits alone",
 -- "with id and the last three always `-1`".
 use Rattle.std.specs.Prelude.{Bool, not, cond, List, ℕ, ◌+◌, eqb, leb, ltb, length, get_or, ⊤, Result, Ok, Err}
 use Rattle.mot_number.specs.Index.{index_of}

@@ -1,4 +1,4 @@
--- What is wrong with a value: what a stream of records turns down with 42, 43 and 16, one value after the other.
+-- What is wrong with a value: document 01's 42, 43 and 16, by which a stream of records is turned down, one value after the other.
 use Rattle.std.specs.Prelude.{not, cond, ℕ, ◌-◌, eqb, ltb, ⊤, Result, Ok, Err, Float}
 use Rattle.std.specs.Float.Ieee.{lt}
 use Rattle.floats.specs.Single.{plus_zero, one}

@@ -1,4 +1,4 @@
-// What is wrong with a line of MOTChallenge detection text that is turned away, for a person to read: which field, and why.
+// What is wrong with a line of MOTChallenge detection text that is turned away, for a person to read: which field, and why. Change request N1.
 #![tactic(auto)]
 
 mod field;

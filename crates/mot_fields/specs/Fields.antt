@@ -1,4 +1,4 @@
--- "Ten comma-separated fields a line (frame, id, left, top, width, height, confidence and three coordinates), with id and the last three always `-1`, each line ended by a line
+-- Document 02, N1: "ten comma-separated fields a line (frame, id, left, top, width, height, confidence and three coordinates), with id and the last three always `-1`, each line ended by a line
 -- feed". A line is a list of bytes.
 use Rattle.std.specs.Prelude.{Bool, true, false, cond, ◌&&◌, List, [], ◌∷◌, ℕ, ◌-◌, eqb, length, take, get_or}
 

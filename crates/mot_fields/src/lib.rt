@@ -1,4 +1,4 @@
-// The fields of a line of MOTChallenge text, read from the front.
+// The fields of a line of MOTChallenge text, read from the front: change request N1.
 // Each function that reads a field takes what is left of the line from that field on, and says where the next field starts in it. So a field that no other follows is turned away.
 #![tactic(auto)]
 

@@ -1,5 +1,5 @@
--- One call takes one line and the previous frame number. Turned away, in this order: 51 a line that doesn't have this form; 52 a value that a stream of records turns down with 16, 42 or 43;
--- 53 no place for the record. 42: frame number 0 or below the previous record's. 43: more than 1000 above the previous (0 at first). A refused call changes no lent memory.
+-- Document 02, N1: "One call takes one line and the previous frame number. .. Turned away, in this order: 51 a line that doesn't have this form; 52 a value that gets 16, 42 or 43 in document 01;
+-- 53 no place for the record." Document 01: "42 frame number 0 or below the previous record's. 43 more than 1000 above the previous (0 at first)." "A refused call changes no lent memory".
 use Rattle.std.specs.Prelude.{Bool, not, cond, ◌||◌, List, [], ◌∷◌, ℕ, ◌-◌, eqb, ltb, length, Result, Ok, Err}
 use Rattle.laws.specs.Splice.{splice}
 use Rattle.box_verdict.specs.Box.{bad_box}
@@ -40,7 +40,7 @@ bad_value previous b = bad_frame previous b.frame || bad_box b.left b.top b.widt
 
 -- ---- when a line is turned away
 
--- each reason by its own words, whatever the others say, in their order
+-- each reason by its own words, whatever the others say, in 02's order
 abbrev pub conditions : List ℕ → ℕ → List ℕ → List (Refusal × Bool)
 conditions l previous out =
     (NotOfTheForm, not (is_detection l))

@@ -1,4 +1,4 @@
--- How a line is written, field by field. A number is a Numeral of mot_number, and a frame number one to six digits.
+-- How a line is written: document 02, N1, field by field. A number is a Numeral of mot_number, and a frame number one to six digits.
 use Rattle.std.specs.Prelude.{List, [], ◌∷◌, ◌++◌, ℕ, ◌≤◌, length, Float}
 use Rattle.records.specs.declared.box_record.BoxRecord.{BoxRecord}
 use Rattle.mot_number.specs.Number.{f32_of}

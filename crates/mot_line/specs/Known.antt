@@ -1,4 +1,4 @@
--- Lines as they are written, and what a call answers and leaves, by computation: a box with its record, and each refusal beside a line that just passes it.
+-- Lines as they are written, and what a call answers and leaves, by computation: document 01's box with its record, and each refusal beside a line that just passes it.
 use Rattle.std.specs.Prelude.{◌≡◌, refl, List, [], ◌∷◌, ◌++◌, map, ℕ, replicate, Ok}
 use Rattle.std.specs.Float.Ieee.{of_bits, to_bits, round, lt, neg}
 use Rattle.mot_number.specs.Index.{index_of, index_after}
@@ -30,7 +30,7 @@ sure = 48 ∷ 46 ∷ 55 ∷ 53 ∷ []
 abbrev feed : List ℕ
 feed = 10 ∷ []
 
--- ---- the box. Two bytes more are lent than a record has
+-- ---- document 01's box. Two bytes more are lent than a record has
 known-record : mot_line (line_with one ten wide sure feed) 0 (replicate 27 170)
     ≡ outcome (Ok 1) (1 ∷ 0 ∷ 0 ∷ 0 ∷ 0 ∷ 0 ∷ 32 ∷ 65 ∷ 0 ∷ 0 ∷ 160 ∷ 65 ∷ 0 ∷ 0 ∷ 0 ∷ 66 ∷ 0 ∷ 0 ∷ 128 ∷ 66 ∷ 0 ∷ 0 ∷ 64 ∷ 63 ∷ 1 ∷ 170 ∷ 170 ∷ [])
 unfolding mot_line first_of bad_frame bad_box beyond every is_line of_forms fields is_unsigned one_to_six index_of index_after with_digits little_endian of_bits to_bits round lt neg

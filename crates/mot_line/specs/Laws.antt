@@ -20,7 +20,7 @@ pub record Accepted (l : List ℕ) (previous : ℕ) (out : List ℕ) (frame : �
   pub frame_is : frame ≡ (box_written written).frame
   pub record_is : out' ≡ splice out 0 (bytes_of_box (box_written written))
 
--- ---- 42 and 43, as trackbox says them of a record's frame number
+-- ---- 42 and 43 of document 01, as trackbox says them of a record's frame number
 
 abbrev pub is_frame_refused : Result Next Fault → Bool
 is_frame_refused (Ok (next.Same state)) = false

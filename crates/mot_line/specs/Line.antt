@@ -1,5 +1,5 @@
--- "Ten comma-separated fields a line (frame, id, left, top, width, height, confidence and three coordinates), with id and the last three always `-1`, each line ended by a line
--- feed. We want a reader that turns it into box records". Records read from such text get label 1.
+-- Document 02, N1: "ten comma-separated fields a line (frame, id, left, top, width, height, confidence and three coordinates), with id and the last three always `-1`, each line ended by a line
+-- feed. We want a reader that turns it into box records". N2: "Records read from N1's text get label 1."
 use Rattle.std.specs.Prelude.{Bool, cond, List, [], ◌∷◌, ℕ, get_or, Option, Some, None, Float}
 use Rattle.records.specs.declared.box_record.BoxRecord.{BoxRecord}
 use Rattle.mot_number.specs.Number.{is_frame, frame_of, is_number, decimal_of, f32_of}

@@ -11,7 +11,7 @@ use records::{BoxRecord, write_box};
 pub enum Refusal {
     // 51
     NotOfTheForm,
-    // 52: a value that a stream of records turns down by 16, 42 or 43
+    // 52: a value that document 01 turns down by 16, 42 or 43
     BadValue,
     // 53
     NoRoom,
@@ -29,7 +29,7 @@ impl From<Refusal> for u32 {
     }
 }
 
-// A frame number lies no further above the previous one.
+// A frame number lies no further above the previous one: document 01's 43.
 pub const MOST_FRAMES_ON: u32 = 1000;
 
 // A frame number of 0 or below the previous one, or too far above it.

@@ -1,4 +1,4 @@
-// A line of MOTChallenge detection text as a box record, a line a call.
+// A line of MOTChallenge detection text as a box record, a line a call: change request N1.
 #![tactic(auto)]
 
 mod call;

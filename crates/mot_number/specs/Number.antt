@@ -1,4 +1,4 @@
--- "A number has an optional minus, one to six digits, and optionally a point with one to six digits"; "each decimal rounded to the nearest f32, ties to even";
+-- Document 02, N1: "A number has an optional minus, one to six digits, and optionally a point with one to six digits"; "each decimal rounded to the nearest f32, ties to even";
 -- "the frame is one to six digits alone. A minus before zero gives minus zero". A text is a list of bytes.
 use Rattle.std.specs.Prelude.{Bool, not, cond, ◌&&◌, ◌||◌, List, [], ◌∷◌, ◌++◌, ℕ, ◌+◌, ◌-◌, ◌*◌, ◌^◌, eqb, leb, ltb, length, take, drop, get_or, Option, Some, None, Float}
 use Rattle.std.specs.Float.{binary32}

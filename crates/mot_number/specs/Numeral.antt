@@ -1,4 +1,4 @@
--- How a number is written: "an optional minus, one to six digits, and optionally a point with one to six digits". A digit is a number below ten, and its byte is 48 more.
+-- How a number is written: document 02, N1, "an optional minus, one to six digits, and optionally a point with one to six digits". A digit is a number below ten, and its byte is 48 more.
 use Rattle.std.specs.Prelude.{Bool, true, false, List, [], ◌∷◌, ◌++◌, map, ℕ, ◌+◌, ◌*◌, ◌≤◌, ◌<◌, length}
 use Rattle.mot_number.specs.Number.{Decimal}
 

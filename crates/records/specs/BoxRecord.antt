@@ -1,4 +1,5 @@
--- A box record is 25 bytes, little-endian: frame u32, then left, top, width, height, score as f32, and the label in one byte, last. Any byte is read as a label; which are labels the frame decides.
+-- Document 01: "A box record is 24 bytes, little-endian: frame u32, then left, top, width, height, score as f32." 02, N2: "A box and a track carry a label .. in one byte beside the old fields.
+-- .. Box records become 25 bytes and track records 33, the label last". Any byte is read; which are labels the frame decides.
 use Rattle.std.specs.Prelude.{◌≡◌, refl, cond, List, ◌++◌, ℕ, ◌*◌, ◌/◌, ltb, length, Option, Some, None}
 use Rattle.records.specs.declared.box_record.BoxRecord.{BoxRecord}
 use Rattle.records.specs.Field.{little_endian, value, five, part, float_at}

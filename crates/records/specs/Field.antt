@@ -1,4 +1,4 @@
--- A field of a record, little-endian. A byte is a number below 256.
+-- A field of a record, little-endian: document 01, "Records and limits". A byte is a number below 256.
 use Rattle.std.specs.Prelude.{List, [], ◌∷◌, ◌++◌, ℕ, zero, suc, ◌+◌, ◌*◌, ◌/◌, ◌%◌, ◌<◌, Float, take, drop, get_or}
 use Rattle.std.specs.Float.{binary32}
 use Rattle.std.specs.Float.Ieee.{to_bits, of_bits}

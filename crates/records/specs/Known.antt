@@ -1,4 +1,4 @@
--- Known examples: a lone box record, and its one track as a record, with label 1. The definitions yield their bytes by computation.
+-- Document 01, "Known examples": the box record, and its one track as a record, with label 1 (02, N2). The definitions yield their bytes by computation.
 use Rattle.std.specs.Prelude.{◌≡◌, refl, [], ◌∷◌}
 use Rattle.std.specs.Float.{nan}
 use Rattle.std.specs.Float.Ieee.{of_bits, to_bits}

@@ -1,4 +1,4 @@
--- A track record is 33 bytes, little-endian: frame u32, id u64, left, top, width, height, confidence as f32, and the label in one byte, last.
+-- Document 01: "A track record is 32 bytes: frame u32, id u64, left, top, width, height, confidence as f32." 02, N2: "track records 33, the label last". Little-endian, as a box record.
 use Rattle.std.specs.Prelude.{◌≡◌, refl, cond, List, ◌++◌, ℕ, ◌*◌, ◌/◌, ltb, length, Option, Some, None}
 use Rattle.records.specs.declared.track_record.TrackRecord.{TrackRecord}
 use Rattle.records.specs.Field.{little_endian, value, five, part, float_at}

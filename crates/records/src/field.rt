@@ -3,13 +3,16 @@ ghost use Rattle.std.specs.Prelude.{◌≡◌, ◌+◌, ◌≤◌, ◌<◌, leng
 ghost use Rattle.records.specs.Field as Field;
 ghost use Rattle.records.specs.Written.{Put};
 
-use std::num::{f32_from_bits_with_nan, f32_to_bits_with_nan};
+use std::num::f32_from_bits_with_nan;
 
 // The bits of x; of every NaN, those of the one that is written.
 pub fn bits(x: f32) -> u32
     ensures { result ≡ Field.bits x }
 {
-    f32_to_bits_with_nan(x)
+    if x.is_nan() {
+        return 0x7fc0_0000;
+    }
+    x.to_bits()
 }
 
 // The number in one byte.

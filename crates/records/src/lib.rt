@@ -1,4 +1,4 @@
-// Box records and track records: fixed numbers of bytes, read from and written to lent slices.
+// Box records and track records: document 01, "Records and limits". Fixed numbers of bytes, read from and written to lent slices.
 #![tactic(auto)]
 
 mod box_record;

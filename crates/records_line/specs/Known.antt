@@ -1,4 +1,4 @@
--- Known examples: the one track of the box record as a line, and the line of a refusal; and the largest u64. The definitions yield them by computation.
+-- Document 01, "Known examples": the one track of the box record as a line, and the line of a refusal; and the largest u64. The definitions yield them by computation.
 use Rattle.std.specs.Prelude.{◌≡◌, refl, [], ◌∷◌, ◌++◌}
 use Rattle.std.specs.Float.Ieee.{of_bits, to_bits}
 use Rattle.records.specs.Known.{lone_track}

@@ -1,4 +1,4 @@
--- Text has numbers as text, Line the printed lines; Known computes examples.
+-- Text has numbers as text, Line the printed lines; Known computes document 01's examples.
 pub mod Text
 pub mod Line
 pub mod Known

@@ -1,5 +1,5 @@
--- The printed lines, each with the line feed at its end. There is one for each emitted track: frame and id in decimal, and left, top, width, height and confidence
--- as the 8 lower-case hexadecimal digits of their bits, separated by one space. A refusal is printed as `refused 42 record 5`.
+-- The printed lines, each with the line feed at its end. Document 01, "Records and limits": "One line per emitted track: frame, id (decimal), left, top, width, height, confidence
+-- (8 lower-case hexadecimal digits of the bits), separated by one space." And "When a call is turned down", trackbox: "It prints `refused 42 record 5`".
 use Rattle.std.specs.Prelude.{List, [], ◌∷◌, ◌++◌, ℕ, Float}
 use Rattle.records.specs.declared.track_record.TrackRecord.{TrackRecord}
 use Rattle.records_line.specs.Text.{decimal, hex, ended}

@@ -1,4 +1,4 @@
--- Numbers as text in ASCII: in decimal, and the bits of an f32 as 8 lower-case hexadecimal digits.
+-- Numbers as text in ASCII: document 01, "Records and limits", "frame, id (decimal)" and "8 lower-case hexadecimal digits of the bits".
 use Rattle.std.specs.Prelude.{cond, List, [], ◌∷◌, ◌++◌, ℕ, zero, suc, ◌+◌, ◌-◌, ◌/◌, ◌%◌, ltb, Float}
 use Rattle.records.specs.Field.{bits}
 

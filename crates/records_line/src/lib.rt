@@ -1,4 +1,4 @@
-// Numbers as text, and the printed lines, over lent bytes.
+// Numbers as text, and the printed lines: document 01, "Records and limits", over lent bytes.
 #![tactic(auto)]
 
 mod line;

@@ -1,5 +1,6 @@
--- Why a pairing routine turns a call down: 31 more than 255 boxes or tracks; 32 a matrix, confidence or label slice of another size than its sides say;
--- 33 a result or work slice too short; 34 a label other than 1 to 3, in the one pairing routine that takes labels. The lowest number that applies is said.
+-- Why a pairing routine turns a call down. Document 01, "When a call is turned down", Pairs: 31 more than 255 boxes or tracks; 32 a matrix or confidence slice of another size than its sides say;
+-- 33 a result or work slice too short. Document 02, N2: "34 such a label in associating, the one pairing routine that takes labels, after 33; label slices count under 32."
+-- Such a label is one other than 1 to 3. The lowest number that applies is said.
 use Rattle.std.specs.Prelude.{⊤, Bool, cond, ◌||◌, ℕ, ltb, Result, Ok, Err}
 use Rattle.refusals.specs.declared.refusal.Refusal.{Refusal}
 use Rattle.refusals.specs.declared.refusal.Refusal.TheVariants.{TooMany, OtherSize, TooShort, NotLabelled}

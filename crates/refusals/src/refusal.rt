@@ -1,4 +1,4 @@
-// Why a call of a pairing routine is turned down: the reasons in the order in which they are looked for.
+// Why a call of a pairing routine is turned down: document 01's 31, 32 and 33, and 02's 34, the reasons in the order in which they are looked for.
 // A call that may be turned down answers with a `Result` whose error is a `Refusal`.
 ghost use Rattle.std.specs.Prelude.{◌≡◌};
 ghost use Rattle.refusals.specs.Refusal as Spec;

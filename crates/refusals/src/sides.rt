@@ -10,14 +10,14 @@ pub fn too_many(boxes: usize, tracks: usize) -> bool
     (boxes > 255) | (tracks > 255)
 }
 
-// Kept: docs/DECISIONS.md offers it, and the wrong program larger_is_the_first is about it.
+// The side of the square that two sides stand in.
 pub fn larger(a: usize, b: usize) -> usize
     ensures { result ≡ max a b }
 {
     a.max(b)
 }
 
-// Kept: docs/DECISIONS.md offers it beside larger.
+// The most pairs that two sides have.
 pub fn smaller(a: usize, b: usize) -> usize
     ensures { result ≡ min a b }
 {

@@ -1,4 +1,4 @@
--- Known examples of the filter and the confidence. A row is the bit pattern of what a definition gives, and the one that is known.
+-- Document 01, "Known examples", the starred cases on the filter and the confidence. A row is the bit pattern of what a definition gives, and the document's.
 use Rattle.std.specs.Prelude.{◌≡◌, ℕ, List, [], ◌∷◌, map, refl, Float}
 use Rattle.std.specs.Float.Ieee.{of_bits, to_bits, add, mul, div}
 use Rattle.floats.specs.Power.{powi}

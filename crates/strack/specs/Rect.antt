@@ -1,4 +1,4 @@
--- Boxes: left, top, width, height, in f32. The larger and the smaller are those of floats_pick; the accessors are the fields.
+-- Boxes: `Rect` of rect.rs, lines 14-135, at f32: left, top, width, height. The larger and the smaller are document 01's, those of floats_pick; the accessors are the fields.
 use Rattle.std.specs.Prelude.{cond, Float}
 use Rattle.std.specs.Float.Ieee.{lt, le}
 use Rattle.floats_pick.specs.Pick.{larger, smaller}

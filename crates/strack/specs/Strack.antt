@@ -1,5 +1,5 @@
--- A track and the two conversions between corners and a measurement. The accessors are the fields: since is time_since_update, streak is hit_streak.
--- The counters are u64 and wrap.
+-- A track: `KalmanBoxTracker` of strack.rs, lines 14-185 without `camera_update`, and the two conversions, lines 197-219. The accessors are the fields: since is time_since_update, streak is hit_streak.
+-- The counters are u64 and wrap, as usize does in the Rust's release build for 64 bits.
 use Rattle.std.specs.Prelude.{ℕ, ◌+◌, ◌-◌, ◌%◌, ◌^◌, cond, ℤ, pos, negsuc, ◌==◌, nat_lt, Float, Result, Ok, Err}
 use Rattle.floats.specs.Power.{powi}
 use Rattle.strack.specs.declared.rect.Xyxy.{Xyxy}
@@ -57,7 +57,7 @@ update t bbox =
     let u : ℕ × KalmanFilter = kalman.update t.kf (convert_bbox_to_z bbox) in
     cond (u.0 == 0) (0, hit t u.1) (u.0, t)
 
--- what an answer says: the number of a refusal, 0 where it is accepted, and the track handed back
+-- what an answer says: document 01's number, 0 where it is accepted, and the track handed back
 abbrev pub track_answer : Result KalmanBoxTracker KalmanBoxTracker → ℕ × KalmanBoxTracker
 track_answer (Ok t) = (0, t)
 track_answer (Err t) = (12, t)

@@ -1,4 +1,4 @@
-// A detection or a tracked box: its rect, its score, and the id of its track if it has one.
+// A detection or a tracked box, object.rs: its rect, its score, and the id of its track if it has one.
 ghost use Rattle.std.specs.Prelude.{◌≡◌};
 ghost use Rattle.strack.specs.Object.{new as new_object};
 

@@ -1,4 +1,4 @@
-// A box: left, top, width, height in f32. Each operation rounds once, in the order in which it is written here.
+// A box, rect.rs: left, top, width, height in f32. Each operation rounds once, in the order in which it is written here, which is the Rust's.
 ghost use Rattle.std.specs.Prelude.{◌≡◌};
 ghost use Rattle.strack.specs.Rect.{new as new_rect, area as area_of, shared_length, iou_over, calc_iou, get_xyah, get_xyxy, from_xyxy, width_of, centred, from_xyhr};
 

@@ -1,5 +1,5 @@
-// A track: the filter of a box with its id and counters, handed to predict or correct by value and
-// handed back; the conversions between corners and a measurement.
+// A track, strack.rs: the filter of a box with its id and counters, handed to predict or correct by
+// value and handed back; the conversions between corners and a measurement.
 ghost use Rattle.std.specs.Prelude.{◌≡◌, if◌then◌else◌, nat_lt};
 ghost use Rattle.strack.specs.Strack.{convert_bbox_to_z, convert_z_to_bbox, new as new_track, as_i32, exponent, confidence, get_confidence, update as update_track, track_answer, predict as predict_track, get_state, get_kf_state, get_kf_covariance_diag};
 
@@ -43,7 +43,7 @@ pub fn convert_z_to_bbox(z: DetectBox) -> Xyxy
     }
 }
 
-// The 32 lowest bits of n, the highest of them the sign.
+// The Rust's `as i32`: the 32 lowest bits of n, the highest of them the sign.
 #[tactic(auto, unfolding(crate::specs::Strack::as_i32))]
 fn as_i32(n: u64) -> i32
     ensures { result ≡ as_i32 n }
@@ -120,7 +120,7 @@ impl KalmanBoxTracker {
         confidence(self.age, self.since, coef)
     }
 
-    // A corrected track, or the track as it was where the filter refuses.
+    // The Rust's update; the score that it takes besides is not used there. A corrected track, or the track as it was where the filter refuses.
     pub fn correct(self, bbox: Xyxy) -> Result<KalmanBoxTracker, KalmanBoxTracker>
         ensures { track_answer result ≡ update_track self bbox }
     {

@@ -1,4 +1,5 @@
--- The filter. A pair is a position p, a speed v and their covariances a, b, c, d; R is the noise of what is measured, A is a. Over it a `KalmanFilter` is the four pairs x, y, h, r.
+-- The filter. A pair is document 01's, "The filter, pair by pair", letter by letter: a position p, a speed v and their covariances A, B, C, D, which are a, b, c, d; R is the noise of what is measured.
+-- Over it `KalmanFilter` of kalman_filter.rs, lines 58-154, is the four pairs x, y, h, r.
 use Rattle.std.specs.Prelude.{ℕ, Bool, cond, ◌&&◌, Float, Result, Ok, Err}
 use Rattle.std.specs.Float.Ieee.Positive.{positive}
 use Rattle.floats.specs.Root.{root}
@@ -50,7 +51,7 @@ unfoldable pub correct_pair : Pair → Float → Float → ℕ × Pair
 unfolding corrected
 correct_pair s z R = cond (correctable s R) (0, corrected s z R) (12, s)
 
--- what an answer says: the number of a refusal, 0 where it is accepted, and the pair handed back
+-- what an answer says: document 01's number, 0 where it is accepted, and the pair handed back
 abbrev pub pair_answer : Result Pair Pair → ℕ × Pair
 pair_answer (Ok s) = (0, s)
 pair_answer (Err s) = (12, s)

@@ -1,2 +1,2 @@
--- The filter: KalmanFilter is the definition, of a pair and of the four pairs over it.
+-- The filter: KalmanFilter is the definition, of document 01's pairs and of the Rust's module over them.
 pub mod KalmanFilter

@@ -1,5 +1,5 @@
-// The filter: its 8 by 8 matrices are four pairs, x, y, h and r, each a position and a speed with
-// their four covariances. Each operation rounds once, in the order in which it is written here.
+// The filter, kalman_filter.rs: its 8 by 8 matrices are four pairs, x, y, h and r, each a position
+// and a speed with their four covariances. Each operation rounds once, in document 01's order.
 ghost use Rattle.std.specs.Prelude.{◌≡◌};
 ghost use Rattle.std.specs.Float.Ieee.Positive.{positive as ieee_positive};
 ghost use Rattle.strack_filter.specs.KalmanFilter.{start_pair, predict_pair, correctable, gained, corrected, correct_pair, pair_answer, new as new_filter, predict as predict_filter, updatable, updated, update as update_filter, filter_answer};

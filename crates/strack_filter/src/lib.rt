@@ -1,4 +1,4 @@
 #![tactic(auto)]
 
-// The filter as four pairs, every struct passed and returned by value.
+// The filter as four pairs: the port of kalman_filter.rs, with every struct passed and returned by value.
 pub mod kalman_filter;

@@ -1,4 +1,4 @@
-// trackbox: box records on standard input, the lines of the emitted tracks on standard output.
+// trackbox: box records on standard input, the lines of the emitted tracks on standard output. Document 01, "Records and limits" and "trackbox".
 #![tactic(auto)]
 
 use program_io::{Streams, has_argument};

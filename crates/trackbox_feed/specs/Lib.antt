@@ -1,4 +1,4 @@
--- trackbox over lent memory. Trackbox is the definition: the text that is printed for the bytes that are read. Feed says what one call answers and leaves,
+-- trackbox over lent memory. Trackbox is the definition, from document 01: the text that is printed for the bytes that are read. Feed says what one call answers and leaves,
 -- and Laws states that all calls together print what the definition says. Private is only for the contracts between private functions.
 -- The proofs are in proofs/.
 pub mod Trackbox

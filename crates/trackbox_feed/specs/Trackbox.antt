@@ -1,5 +1,6 @@
--- The program trackbox. It reads box records on standard input, lends for 64 tracks and 64 boxes, and uses `det_thresh` 0.6, `iou_threshold` 0.3, `max_age` 30, `min_hits` 3 and otherwise the
--- settings of `new`. What it does with its records is Stream's; here is what a frame gives, by the tracker's definition. Its box records have a label, and it prints none.
+-- The program trackbox. Document 01, "Records and limits": it "reads box records on standard input, lends for 64 tracks and 64 boxes, uses `det_thresh` 0.6, `iou_threshold` 0.3, `max_age` 30,
+-- `min_hits` 3 and otherwise `BoostTracker::new`'s settings". What it does with its records is Stream's; here is what a frame gives, by the tracker's definition.
+-- Document 02, N2: its box records have a label, and it prints none.
 use Rattle.std.specs.Prelude.{◌≡◌, refl, false, List, map, ℕ, ◌*◌, replicate, Float, ⊤, Result, Ok, Err}
 use Rattle.std.specs.Float.{binary32}
 use Rattle.std.specs.Float.Ieee.{of_bits, round}

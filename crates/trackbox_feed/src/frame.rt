@@ -16,7 +16,7 @@ pub struct Worked {
     pub text: usize,
 }
 
-// `det_thresh` 0.6, `iou_threshold` 0.3, `max_age` 30, `min_hits` 3, otherwise those of `new`.
+// Document 01: `det_thresh` 0.6, `iou_threshold` 0.3, `max_age` 30, `min_hits` 3, otherwise those of `new`.
 pub fn settings() -> Settings
     ensures { result ≡ Trackbox.settings }
 {

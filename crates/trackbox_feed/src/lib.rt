@@ -1,4 +1,4 @@
-// What trackbox does with one record after another, over lent memory: the frames that come before a record are worked, and their lines are the text of each call.
+// What trackbox does with one record after another, over lent memory: the frames that come before a record are worked, and their lines are the text of each call. Document 01, "trackbox".
 #![tactic(auto)]
 
 mod feed;

@@ -1,4 +1,4 @@
-// What trackbox lends: for 64 tracks and 64 boxes.
+// What trackbox lends: for 64 tracks and 64 boxes. Document 01, "Records and limits".
 use boost_tracker_table::{PLACE_COUNTERS, PLACE_FLOATS};
 use records::{BOX_VALUES, TRACK_BYTES};
 

@@ -1,4 +1,4 @@
--- The boxes of a frame as `update` takes them, five floats each: left, top, width, height, score; and their labels, a byte each.
+-- The boxes of a frame as `update` takes them, five floats each: left, top, width, height, score; and their labels, a byte each (02, N2).
 use Rattle.std.specs.Prelude.{cond, List, [], ◌∷◌, map, ℕ, ◌*◌, ◌/◌, ltb, length, set, Float}
 use Rattle.laws.specs.Splice.{splice}
 use Rattle.laws.specs.Laid.{rows}

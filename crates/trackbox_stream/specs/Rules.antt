@@ -1,5 +1,5 @@
--- One record at a time. A stream is turned down with 41 where its last record is incomplete, with 42 at a frame number of 0 or below the previous record's, with 43 at one more than 1000 above
--- the previous (0 at first), and with 44 at a 65th box in a frame. The previous record's number is that of the open frame.
+-- One record at a time. Document 01, "When a call is turned down", trackbox: "41 the last record incomplete. 42 frame number 0 or below the previous record's. 43 more than 1000 above the
+-- previous (0 at first). 44 a 65th box in a frame." The previous record's number is that of the open frame.
 use Rattle.std.specs.Prelude.{cond, ◌||◌, ℕ, ◌+◌, ◌-◌, min, eqb, leb, ltb, ⊤, Result, Ok, Err}
 use Rattle.trackbox_stream.specs.declared.rules.OpenFrame.{OpenFrame}
 use Rattle.trackbox_stream.specs.declared.rules.Refusal.{Refusal}

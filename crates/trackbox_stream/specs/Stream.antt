@@ -1,6 +1,6 @@
--- What `trackbox` does with its input. Skipped frame numbers are empty frames. It turns its input down with 41 where the last record is incomplete, with 42 at a frame number of 0 or below the
--- previous record's, with 43 at one more than 1000 above the previous (0 at first), with 44 at a 65th box in a frame. It prints `refused 42 record 5`, records counted from 1, and stops;
--- a frame's own refusal names the frame's first record, or for an empty frame the record after it. The open frame isn't worked.
+-- What `trackbox` does with its input. Document 01, "Records and limits": "Skipped frame numbers are empty frames." "When a call is turned down", trackbox: "41 the last record incomplete.
+-- 42 frame number 0 or below the previous record's. 43 more than 1000 above the previous (0 at first). 44 a 65th box in a frame. It prints `refused 42 record 5`, records counted from 1, and
+-- stops; a frame's own refusal names the frame's first record, or for an empty frame the record after it. The open frame isn't worked."
 -- `events` is what is done, in order; `trackbox` what is printed, for any meaning of a frame.
 use Rattle.std.specs.Prelude.{Bool, true, false, cond, ◌||◌, ℕ, ◌+◌, ◌-◌, ◌*◌, ◌/◌, ◌%◌, eqb, leb, ltb, length}
 use mathlib.Core.List.{List, [], ◌∷◌, ◌++◌, foldl}

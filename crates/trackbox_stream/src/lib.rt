@@ -1,4 +1,4 @@
-// The rules of trackbox on a stream of box records: which records pass, and which frames they are of. Lent memory holds the boxes of the open frame.
+// The rules of trackbox on a stream of box records: document 01, "When a call is turned down", trackbox. Which records pass, and which frames they are of. Lent memory holds the boxes of the open frame.
 #![tactic(auto)]
 
 mod boxes;

@@ -15,7 +15,7 @@ pub struct OpenFrame {
     pub boxes: usize,
 }
 
-// Why a stream is turned down.
+// Why a stream is turned down: document 01's 41 to 44.
 #[derive(Clone, Copy, Debug, PartialEq, Eq)]
 pub enum Refusal {
     // 41

@@ -1,4 +1,4 @@
-// why FILE FRAME BOX: what became of a box of a frame, in words and numbers.
+// why FILE FRAME BOX: what became of a box of a frame, in words and numbers. Document 02, N9.
 #![tactic(auto)]
 
 use program_io::{Streams, fail, has_argument, write_out};

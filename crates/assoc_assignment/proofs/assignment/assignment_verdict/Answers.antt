@@ -17,12 +17,12 @@ unfolding assignment_verdict
 returns-then-ious-cells c = rw (c.if-boxes-tracks.false, c.if-ious-cells.true)
 
 pub overflow_mul-n : goal.overflow_mul-n
-overflow_mul-n c = let few = side-low _ _ c.if-boxes-tracks.false c.max-n.ensures in record { fits = sides_fit few few }
+overflow_mul-n c = let few = side-low _ _ c.if-boxes-tracks.false c.larger-n.ensures in record { fits = sides_fit few few }
 
 pub returns-then-short-room : goal.returns-then-short-room
 unfolding assignment_verdict
-returns-then-short-room c = rw (c.if-boxes-tracks.false, c.if-ious-cells.false, rw (c.min-few.ensures, c.max-n.ensures) at c.if-short-room.true)
+returns-then-short-room c = rw (c.if-boxes-tracks.false, c.if-ious-cells.false, rw (c.smaller-few.ensures, c.larger-n.ensures) at c.if-short-room.true)
 
 pub returns : goal.returns
 unfolding assignment_verdict
-returns c = rw (c.if-boxes-tracks.false, c.if-ious-cells.false, rw (c.min-few.ensures, c.max-n.ensures) at c.if-short-room.false)
+returns c = rw (c.if-boxes-tracks.false, c.if-ious-cells.false, rw (c.smaller-few.ensures, c.larger-n.ensures) at c.if-short-room.false)

@@ -4,4 +4,4 @@ use Rattle.assoc_direct.proofs.direct.fits.Goals as goal
 
 pub returns : goal.returns
 unfolding fitting
-returns c = rw (c.is_matrix.ensures, c.min-few.ensures)
+returns c = rw (c.is_matrix.ensures, c.smaller-few.ensures)

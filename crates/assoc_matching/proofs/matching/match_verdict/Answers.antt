@@ -18,12 +18,12 @@ unfolding match_verdict
 returns-then-costs-boxes c = rw (c.if-boxes-tracks.false, ne_eqb _ _ c.if-costs-boxes.true)
 
 pub overflow_mul-n : goal.overflow_mul-n
-overflow_mul-n c = let few = side-low _ _ c.if-boxes-tracks.false c.max-n.ensures in record { fits = sides_fit few few }
+overflow_mul-n c = let few = side-low _ _ c.if-boxes-tracks.false c.larger-n.ensures in record { fits = sides_fit few few }
 
 pub returns-then-pairs-few : goal.returns-then-pairs-few
 unfolding match_verdict
-returns-then-pairs-few c = rw (c.if-boxes-tracks.false, eq-eqb _ _ c.if-costs-boxes.false, rw (c.min-few.ensures, c.max-n.ensures) at c.if-pairs-few.true)
+returns-then-pairs-few c = rw (c.if-boxes-tracks.false, eq-eqb _ _ c.if-costs-boxes.false, rw (c.smaller-few.ensures, c.larger-n.ensures) at c.if-pairs-few.true)
 
 pub returns : goal.returns
 unfolding match_verdict
-returns c = rw (c.if-boxes-tracks.false, eq-eqb _ _ c.if-costs-boxes.false, rw (c.min-few.ensures, c.max-n.ensures) at c.if-pairs-few.false)
+returns c = rw (c.if-boxes-tracks.false, eq-eqb _ _ c.if-costs-boxes.false, rw (c.smaller-few.ensures, c.larger-n.ensures) at c.if-pairs-few.false)

@@ -15,19 +15,19 @@ overflow_mul-boxes c = let low = few-sides _ _ c.if-boxes-tracks.false in record
 
 pub returns-then-costs-boxes : goal.returns-then-costs-boxes
 unfolding partner_verdict
-returns-then-costs-boxes c = rw (c.if-boxes-tracks.false, rw c.max-n.ensures at c.if-costs-boxes.true)
+returns-then-costs-boxes c = rw (c.if-boxes-tracks.false, rw c.larger-n.ensures at c.if-costs-boxes.true)
 
 pub overflow_mul-n : goal.overflow_mul-n
-overflow_mul-n c = let few = side-low _ _ c.if-boxes-tracks.false c.max-n.ensures in record { fits = sides_fit few few }
+overflow_mul-n c = let few = side-low _ _ c.if-boxes-tracks.false c.larger-n.ensures in record { fits = sides_fit few few }
 
 pub returns-then-work-n : goal.returns-then-work-n
 unfolding partner_verdict
 returns-then-work-n c =
-    let side = c.max-n.ensures in
+    let side = c.larger-n.ensures in
     rw (c.if-boxes-tracks.false, rw side at c.if-costs-boxes.false, lt-ltb _ _ (rw side at c.if-work-n.true))
 
 pub returns : goal.returns
 unfolding partner_verdict
 returns c =
-    let side = c.max-n.ensures in
+    let side = c.larger-n.ensures in
     rw (c.if-boxes-tracks.false, rw side at c.if-costs-boxes.false, le-ltb _ _ (rw side at c.if-work-n.false))

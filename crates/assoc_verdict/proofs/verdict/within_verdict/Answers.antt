@@ -19,14 +19,14 @@ unfolding within_verdict
 returns-then-other_size c = rw (c.if-boxes-tracks.false, sym c.other_size.ensures ∙ c.if-other_size.true)
 
 pub overflow_mul-n : goal.overflow_mul-n
-overflow_mul-n c = let few = side-low _ _ c.if-boxes-tracks.false c.max-n.ensures in record { fits = sides_fit few few }
+overflow_mul-n c = let few = side-low _ _ c.if-boxes-tracks.false c.larger-n.ensures in record { fits = sides_fit few few }
 
 pub overflow_mul-n-2 : goal.overflow_mul-n-2
-overflow_mul-n-2 c = let few = side-low _ _ c.if-boxes-tracks.false c.max-n.ensures in omega (arith, mul-le-mul few few)
+overflow_mul-n-2 c = let few = side-low _ _ c.if-boxes-tracks.false c.larger-n.ensures in omega (arith, mul-le-mul few few)
 
 pub returns-then-work32-n : goal.returns-then-work32-n
 unfolding within_verdict
-returns-then-work32-n c = rw (c.if-boxes-tracks.false, sym c.other_size.ensures ∙ c.if-other_size.false, lt-ltb _ _ (rw c.max-n.ensures at c.if-work32-n.true))
+returns-then-work32-n c = rw (c.if-boxes-tracks.false, sym c.other_size.ensures ∙ c.if-other_size.false, lt-ltb _ _ (rw c.larger-n.ensures at c.if-work32-n.true))
 
 pub overflow_mul-cells : goal.overflow_mul-cells
 overflow_mul-cells c = let low = few-sides _ _ c.if-boxes-tracks.false in record { fits = sides_fit low.0 low.1 }
@@ -34,7 +34,7 @@ overflow_mul-cells c = let low = few-sides _ _ c.if-boxes-tracks.false in record
 pub returns : goal.returns
 returns c =
     c.assignment_verdict.ensures
-    ∙ within-rest _ _ _ _ _ _ _ _ _ _ c.if-boxes-tracks.false (sym c.other_size.ensures ∙ c.if-other_size.false) (le-ltb _ _ (rw c.max-n.ensures at c.if-work32-n.false))
+    ∙ within-rest _ _ _ _ _ _ _ _ _ _ c.if-boxes-tracks.false (sym c.other_size.ensures ∙ c.if-other_size.false) (le-ltb _ _ (rw c.larger-n.ensures at c.if-work32-n.false))
 
 pub other_size-requires : goal.other_size-requires
 other_size-requires c = few-sides _ _ c.if-boxes-tracks.false
