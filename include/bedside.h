@@ -5,7 +5,7 @@
  * the payload of a NaN are left open. CHANGELOG.md says what each version changed for callers.
  *
  * ---- What the library does not do ----
- * It allocates nothing, keeps nothing between calls and has no data of its own: 50 kB of code, no variables. Every call
+ * It allocates nothing, keeps nothing between calls and has no data of its own: 49 kB of code, no variables. Every call
  * is reentrant, from any thread, and two trackers are two tables. No call fails but by its refusal number, overflows,
  * runs forever, or touches memory that it was not lent. Of other code it calls memset alone.
  *
@@ -24,7 +24,7 @@
  * - Table and state go on from frame to frame as the last call left them. A call accepts whatever is sound (11), but
  *   only then do tracks go on, and no id is given twice.
  * - Stack, below the caller's frame: 38 KiB for bedside_update, 37 KiB for bedside_why,
- *   at most 17 KiB for every other call; measured, as the 50 kB above.
+ *   at most 17 KiB for every other call; measured, as the 49 kB above.
  *
  * ---- Refusals ----
  * A call that is turned down says the number why, and 0 where it is accepted (enum bedside_refusal below). It changes
