@@ -27,7 +27,7 @@ fn pair_at(f: &[f32], at: usize) -> Pair
     }
 }
 
-// Not by `copy_from_slice`, which first tests whether the two parts overlap: with it a drop took about twice the instructions.
+// Not by `copy_from_slice`, which first tests whether the two slices overlap: with it a drop of one id of many took about twice the instructions.
 fn put_array<T: Copy, const N: usize>(part: &mut [T], cells: [T; N])
     requires { length part.old ≡ N }
     ensures { part.new ≡ cells }
